@@ -1,0 +1,14 @@
+pub mod Modular
+pub mod Rolling
+pub mod Cascade
+pub mod Dates
+pub mod Years
+pub mod Weeks
+pub mod Hours
+pub mod Faces
+pub mod FaceLaw
+pub mod Face167
+pub mod Face274
+pub mod Later
+pub mod Count167
+pub mod Count274

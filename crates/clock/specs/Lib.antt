@@ -1,0 +1,10 @@
+pub mod Times
+pub mod Counter
+pub mod Rounds
+pub mod Parts
+pub mod Mm58274c
+pub mod Mm58167b
+pub mod Modes
+pub mod Registers167
+pub mod Registers274
+pub mod Start
