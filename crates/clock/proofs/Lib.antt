@@ -1,4 +1,5 @@
 pub mod Modular
+pub mod Masks
 pub mod Rolling
 pub mod Cascade
 pub mod Dates
@@ -12,3 +13,5 @@ pub mod Face274
 pub mod Later
 pub mod Count167
 pub mod Count274
+pub mod Start274
+pub mod Start167

@@ -1,10 +1,11 @@
 // How the clock chips count: cycles into steps, and steps into the faces they show.
+mod counter;
 pub mod date;
+mod digits;
 pub mod hour;
 pub mod mm58167b;
 pub mod mm58274c;
 pub mod mode;
-pub mod month_day;
-mod counter;
-
 mod month;
+pub mod month_day;
+mod setting;

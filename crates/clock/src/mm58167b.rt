@@ -3,6 +3,8 @@ ghost use Prim.Native.Nat.{ℕ, _≤_};
 use crate::month_day::MonthDay;
 
 mod advance;
+mod kind;
+mod start;
 
 #[derive(Clone, Copy)]
 pub struct Running {

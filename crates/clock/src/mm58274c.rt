@@ -4,6 +4,8 @@ use crate::date::Date;
 use crate::hour::HourOfDay;
 
 mod advance;
+mod kind;
+mod start;
 
 #[derive(Clone, Copy)]
 pub struct Running {

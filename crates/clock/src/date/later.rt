@@ -26,7 +26,8 @@ impl Date {
     pub(crate) fn later(self, days: u64) -> Date
         ensures { λ r. ⌜ dated r ≡ times days next-date (dated self) ⌝ }
     {
-        let start = since_leap(self.leap as u64) + day_of_year(self.month, self.day, self.leap == 0) as u64;
+        let start = since_leap(self.leap as u64)
+            + day_of_year(self.month, self.day, self.leap == 0) as u64;
         let place = start + days % HUNDRED_YEARS;
         let left = place % FOUR_YEARS;
         let leap = left.saturating_sub(1) / 365;

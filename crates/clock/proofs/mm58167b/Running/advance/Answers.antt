@@ -3,6 +3,7 @@ use Prim.Native.Nat.{_+_}
 use Rattle.clock.specs.Mm58167b.{Counters}
 use Rattle.clock.specs.Registers167.{counters}
 use Rattle.clock.proofs.Count167.{counted}
+use Rattle.clock.proofs.Start167.{running}
 use Rattle.clock.proofs.mm58167b.Running.advance.Needs as need
 
 pub returns : need.returns
@@ -19,17 +20,7 @@ returns c =
       day = d .day;
       month = d .month;
     } in
-    counted (c .args .steps) (c .turned-milliseconds .result .1) (c .turned-hundredths .result .1) (c .turned-seconds .result .1) (c .turned-minutes .result .1) (c .turned-hours .result .1) (counters s) e
-    record {
-      milliseconds = s .part .0;
-      hundredths = s .part .1;
-      seconds = s .time .0;
-      minutes = s .time .1;
-      hours = s .time .2;
-      weekday = s .week;
-      month = s .date .months;
-      day = s .date .days;
-    }
+    counted (c .args .steps) (c .turned-milliseconds .result .1) (c .turned-hundredths .result .1) (c .turned-seconds .result .1) (c .turned-minutes .result .1) (c .turned-hours .result .1) (counters s) e (running s)
     record {
       milliseconds = c .turned-milliseconds .ensures .0;
       into-hundredths = c .turned-milliseconds .ensures .1;

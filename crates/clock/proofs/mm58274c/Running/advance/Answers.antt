@@ -6,6 +6,7 @@ use Rattle.clock.specs.Modes.{is24}
 use Rattle.clock.specs.Mm58274c.{Counters}
 use Rattle.clock.specs.Registers274.{counters, hour}
 use Rattle.clock.proofs.Count274.{counted}
+use Rattle.clock.proofs.Start274.{running}
 use Rattle.clock.proofs.mm58274c.Running.advance.Needs as need
 
 pub returns : need.returns
@@ -27,18 +28,7 @@ returns c =
       year = d .year;
     } in
     let mid = c .since-midnight .ensures .0 in
-    counted (c .args .steps) (c .turned-tenths .result .1) (c .turned-seconds .result .1) (c .turned-minutes .result .1) (c .turned-hour .result .1) (counters s) e
-    record {
-      tenths = s .ranges .0;
-      seconds = s .ranges .1;
-      minutes = s .ranges .2;
-      hours = (s .hour .shown .0, s .hour .shown .1, s .hour .half);
-      weekday = (s .ranges .3, s .ranges .4);
-      month = s .date .months;
-      day = s .date .days;
-      leap = s .date .years .0;
-      year = s .date .years .1;
-    }
+    counted (c .args .steps) (c .turned-tenths .result .1) (c .turned-seconds .result .1) (c .turned-minutes .result .1) (c .turned-hour .result .1) (counters s) e (running s)
     record {
       tenths = c .turned-tenths .ensures .0;
       into-seconds = c .turned-tenths .ensures .1;

@@ -1,0 +1,6 @@
+use mathlib.Core.Path.{refl}
+use Rattle.clock.proofs.Face274.{round-law}
+use Rattle.clock.proofs.mm58274c.Running.round.Needs as need
+
+pub returns : need.returns
+returns c = record { value = refl; law = round-law }
