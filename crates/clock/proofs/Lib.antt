@@ -1,3 +1,8 @@
+pub mod Passing
+pub mod Periods
+pub mod Waiting
+pub mod KnownDividers
+pub mod Stands
 pub mod Modular
 pub mod Masks
 pub mod Rolling
@@ -15,3 +20,4 @@ pub mod Count167
 pub mod Count274
 pub mod Start274
 pub mod Start167
+pub mod Cases

@@ -1,3 +1,6 @@
+pub mod Divider
+pub mod Numbers
+pub mod Waits
 pub mod Times
 pub mod Counter
 pub mod Rounds
@@ -8,3 +11,4 @@ pub mod Modes
 pub mod Registers167
 pub mod Registers274
 pub mod Start
+pub mod Cases

@@ -2,6 +2,7 @@
 mod counter;
 pub mod date;
 mod digits;
+pub mod divider;
 pub mod hour;
 pub mod mm58167b;
 pub mod mm58274c;
@@ -9,3 +10,4 @@ pub mod mode;
 mod month;
 pub mod month_day;
 mod setting;
+pub mod worked;
