@@ -7,7 +7,6 @@ use lib.ListN.{length, getD}
 use Rattle.std.proofs.shelf.Elements.{all-getD}
 use Rattle.clock.specs.Mm58167b.{InRange, Lawful, read, shown}
 use Rattle.clock.specs.Registers167.{counters, face}
-use Rattle.clock.specs.Start.{TwoDigits}
 use Rattle.clock.specs.declared.mm58167b.Running.{Running}
 use Rattle.clock.proofs.Faces.{cols, spelled}
 use Rattle.clock.proofs.Face167.{shown-read}
@@ -30,12 +29,12 @@ module _ (f : List ℕ) where
   d k = getD f k 0
 
   pub record Shows (x : Running) : Type 0 where
-    pub milliseconds : (x .milliseconds ≡ d 0 + 10 * 0) × TwoDigits (d 0) 0 0 9
-    pub hundredths : (x .hundredths ≡ d 1 + 10 * d 2) × TwoDigits (d 1) (d 2) 0 99
-    pub seconds : (x .seconds ≡ d 3 + 10 * d 4) × TwoDigits (d 3) (d 4) 0 59
-    pub minutes : (x .minutes ≡ d 5 + 10 * d 6) × TwoDigits (d 5) (d 6) 0 59
-    pub hours : (x .hours ≡ d 7 + 10 * d 8) × TwoDigits (d 7) (d 8) 0 23
-    pub weekday : (x .weekday ≡ d 9 + 10 * 0) × TwoDigits (d 9) 0 1 7
+    pub milliseconds : (x .milliseconds ≡ d 0 + 10 * 0) × (d 0 ≤ 9)
+    pub hundredths : (x .hundredths ≡ d 1 + 10 * d 2) × (d 1 ≤ 9) × (d 2 ≤ 9)
+    pub seconds : (x .seconds ≡ d 3 + 10 * d 4) × (d 3 ≤ 9) × (d 4 ≤ 9)
+    pub minutes : (x .minutes ≡ d 5 + 10 * d 6) × (d 5 ≤ 9) × (d 6 ≤ 9)
+    pub hours : (x .hours ≡ d 7 + 10 * d 8) × (d 7 ≤ 9) × (d 8 ≤ 9)
+    pub weekday : (x .weekday ≡ d 9 + 10 * 0) × (d 9 ≤ 9)
     pub day : (x .date .day ≡ d 10 + 10 * d 11) × (d 10 ≤ 9) × (d 11 ≤ 9)
     pub month : (x .date .month ≡ d 12 + 10 * d 13) × (d 12 ≤ 9) × (d 13 ≤ 9)
 
@@ -56,6 +55,6 @@ module _ (f : List ℕ) where
       let P : List ℕ → Type 0 = λ l. (k : ℕ) → k < 14 → getD l k 0 ≤ 9 in
       let tens : P (cols 14 d) = λ k l.
       all-getD (λ v. v ≤ 9) (cols 14 d) k 0 l
-      (s .milliseconds .1 .0, (s .hundredths .1 .0, (s .hundredths .1 .1, (s .seconds .1 .0, (s .seconds .1 .1, (s .minutes .1 .0, (s .minutes .1 .1, (s .hours .1 .0, (s .hours .1 .1, (s .weekday .1 .0, (s .day .1, (s .day .2, (s .month .1, (s .month .2, tt)))))))))))))) in
+      (s .milliseconds .1, (s .hundredths .1, (s .hundredths .2, (s .seconds .1, (s .seconds .2, (s .minutes .1, (s .minutes .2, (s .hours .1, (s .hours .2, (s .weekday .1, (s .day .1, (s .day .2, (s .month .1, (s .month .2, tt)))))))))))))) in
       let lawful : Lawful f = record { columns = len; decimal = subst P (sym (spelled 14 f len)) tens; in-range = subst InRange same (running x) } in
       (ap shown same ∙ sym (shown-read f lawful), lawful)

@@ -11,7 +11,7 @@ use Rattle.clock.specs.Counter.{days-of}
 use Rattle.clock.specs.Mm58274c.{InRange, Lawful, read, shown}
 use Rattle.clock.specs.Modes.{is24}
 use Rattle.clock.specs.Registers274.{counters, face}
-use Rattle.clock.specs.Start.{TwoDigits, DateShown}
+use Rattle.clock.specs.Start.{DateShown}
 use Rattle.clock.specs.declared.mm58274c.Running.{Running}
 use Rattle.clock.proofs.Faces.{cols, spelled}
 use Rattle.clock.proofs.Face274.{shown-read}
@@ -42,9 +42,9 @@ module _ (f : List ℕ) where
       apart ((l 7 (lit≤ tt), l 8 (lit≤ tt), r .day .0, day), (l 9 (lit≤ tt), l 10 (lit≤ tt), r .month .0, r .month .1), (l 11 (lit≤ tt), l 12 (lit≤ tt), zero-le, r .year), subst (λ x. x ≤ 3) (sym e) (r .leap))
 
   pub record Shows (x : Running) : Type 0 where
-    pub tenths : (x .tenths ≡ d 0 + 10 * 0) × TwoDigits (d 0) 0 0 9
-    pub seconds : (x .seconds ≡ d 1 + 10 * d 2) × TwoDigits (d 1) (d 2) 0 59
-    pub minutes : (x .minutes ≡ d 3 + 10 * d 4) × TwoDigits (d 3) (d 4) 0 59
+    pub tenths : (x .tenths ≡ d 0 + 10 * 0) × (d 0 ≤ 9)
+    pub seconds : (x .seconds ≡ d 1 + 10 * d 2) × (d 1 ≤ 9) × (d 2 ≤ 9)
+    pub minutes : (x .minutes ≡ d 3 + 10 * d 4) × (d 3 ≤ 9) × (d 4 ≤ 9)
     pub hours : (x .hour .hours ≡ d 5 + 10 * d 6) × (d 5 ≤ 9) × (d 6 ≤ 9)
     pub pm : x .hour .pm ≡ eqb (d 14 / 2 % 2) 1
     pub mode : is24 (x .hour .mode) ≡ eqb (d 14 % 2) 1
@@ -52,7 +52,7 @@ module _ (f : List ℕ) where
     pub month : (x .date .month ≡ d 9 + 10 * d 10) × (d 9 ≤ 9) × (d 10 ≤ 9)
     pub year : (x .date .year ≡ d 11 + 10 * d 12) × (d 11 ≤ 9) × (d 12 ≤ 9)
     pub leap : x .date .leap ≡ d 14 / 4
-    pub weekday : (x .weekday ≡ d 13 + 10 * 0) × TwoDigits (d 13) 0 1 7
+    pub weekday : (x .weekday ≡ d 13 + 10 * 0) × (d 13 ≤ 9)
 
   pub started : (x : Running) → length f ≡ 15 → Shows x → (face x ≡ f) × Lawful f
   started x len s =
@@ -75,6 +75,6 @@ module _ (f : List ℕ) where
       let tens : P (cols 15 d) = λ k l.
       subst (λ v. v ≤ 9) (getD-take 14 (cols 15 d) k 0 l)
       (all-getD (λ v. v ≤ 9) (take 14 (cols 15 d)) k 0 l
-      (s .tenths .1 .0, (s .seconds .1 .0, (s .seconds .1 .1, (s .minutes .1 .0, (s .minutes .1 .1, (s .hours .1, (s .hours .2, (s .day .1, (s .day .2, (s .month .1, (s .month .2, (s .year .1, (s .year .2, (s .weekday .1 .0, tt))))))))))))))) in
+      (s .tenths .1, (s .seconds .1, (s .seconds .2, (s .minutes .1, (s .minutes .2, (s .hours .1, (s .hours .2, (s .day .1, (s .day .2, (s .month .1, (s .month .2, (s .year .1, (s .year .2, (s .weekday .1, tt))))))))))))))) in
       let lawful : Lawful f = record { columns = len; decimal = subst P (sym (spelled 15 f len)) tens; in-range = subst InRange same (running x) } in
       (ap shown same ∙ sym (shown-read f lawful), lawful)

@@ -6,6 +6,9 @@ ghost use Rattle.clock.specs.Divider.{period as period-of};
 mod count;
 mod kinds;
 
+// The cycles that the crystal makes in a second.
+pub const SECOND: u64 = 32_768;
+
 // Of every `m` cycles it drops the last `d`, and it divides the rest by `k`.
 #[derive(Clone, Copy)]
 pub struct Divider {

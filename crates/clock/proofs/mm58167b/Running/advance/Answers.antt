@@ -1,5 +1,6 @@
 use mathlib.Core.Path.{ap}
 use Prim.Native.Nat.{_+_}
+use native.Mathlib.Omega.{arith}
 use Rattle.clock.specs.Mm58167b.{Counters}
 use Rattle.clock.specs.Registers167.{counters}
 use Rattle.clock.proofs.Count167.{counted}
@@ -30,7 +31,7 @@ returns c =
       into-minutes = c .turned-seconds .ensures .1;
       minutes = c .turned-minutes .ensures .0;
       into-hours = c .turned-minutes .ensures .1;
-      hours = c .turned-hours .ensures .0;
+      hours = omega arith;
       into-days = c .turned-hours .ensures .1;
       weekday = ap (λ x. x + 1) (c .turned-weekday .ensures .0);
       date = c .later .ensures;

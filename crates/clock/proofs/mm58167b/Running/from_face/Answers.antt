@@ -30,12 +30,12 @@ returns c =
       week = (omega arith, omega arith);
     } in
     started f x len record {
-      milliseconds = t;
-      hundredths = b;
-      seconds = s;
-      minutes = m;
-      hours = h;
-      weekday = w;
+      milliseconds = (t .0, t .1 .0);
+      hundredths = (b .0, b .1 .0, b .1 .1);
+      seconds = (s .0, s .1 .0, s .1 .1);
+      minutes = (m .0, m .1 .0, m .1 .1);
+      hours = (h .0, h .1 .0, h .1 .1);
+      weekday = (w .0, w .1 .0);
       day = (e .0, e .2 .0 .0, e .2 .0 .1);
       month = (e .1, e .2 .1 .0, e .2 .1 .1);
     }

@@ -1,10 +1,9 @@
-use mathlib.Core.Path.{refl, ap, sym, _∙_}
+use mathlib.Core.Path.{ap, _∙_}
 use native.Mathlib.Omega.{arith}
 use Prim.Native.Nat.{_+_, _/_, _%_}
-use borrow.Author.Needs.{needs}
 use Rattle.clock.specs.Modes.{is24}
 use Rattle.clock.specs.Mm58274c.{Counters}
-use Rattle.clock.specs.Registers274.{counters, hour}
+use Rattle.clock.specs.Registers274.{counters}
 use Rattle.clock.proofs.Count274.{counted}
 use Rattle.clock.proofs.Start274.{running}
 use Rattle.clock.proofs.mm58274c.Running.advance.Needs as need
@@ -40,6 +39,6 @@ returns c =
       mode = ap is24 (c .at .ensures .1);
       fits = (at .shown .0, at .shown .1, at .half);
       into-days = c .turned-hour .ensures .1 ∙ ap (λ x. (x + c .turned-minutes .result .1) / 24) mid;
-      weekday = ap (λ x. x + 1) (c .turned-weekday .ensures .0);
+      weekday = omega arith;
       date = c .later .ensures;
     }

@@ -31,9 +31,9 @@ returns c =
       ranges = (omega arith, omega arith, omega arith, omega arith, omega arith);
     } in
     started f x len record {
-      tenths = t;
-      seconds = s;
-      minutes = m;
+      tenths = (t .0, t .1 .0);
+      seconds = (s .0, s .1 .0, s .1 .1);
+      minutes = (m .0, m .1 .0, m .1 .1);
       hours = (h .0, h .3 .0, h .3 .1);
       pm = h .1 ∙ g .pm;
       mode = ap is24 (h .2) ∙ g .mode;
@@ -41,5 +41,5 @@ returns c =
       month = (e .1, e .4 .1 .0, e .4 .1 .1);
       year = (e .2, e .4 .2 .0, e .4 .2 .1);
       leap = e .3 ∙ g .leap;
-      weekday = w;
+      weekday = (w .0, w .1 .0);
     }
