@@ -1,6 +1,8 @@
 // Faces counted in one go against single steps.
-use crate::plain167::Plain as Plain167;
-use crate::plain274::Plain as Plain274;
+use crate::plain::Calendar;
+use crate::plain::Mm58167b;
+use crate::plain::Mm58274c;
+use crate::plain::from_zero;
 use crate::worked::steps_on;
 use clock::mm58167b::Running as Running167;
 use clock::mm58274c::Running as Running274;
@@ -33,7 +35,7 @@ const HOURS: [(u8, bool, bool); 9] = [
 ];
 
 // Whether n steps in one go are n single steps; None where the face is not lawful.
-fn agrees274(start: &Plain274, n: u32) -> Option<bool> {
+fn agrees274(start: &Mm58274c, n: u32) -> Option<bool> {
     let mut counters = Running274::from_face(&start.face())?;
     counters.advance(u64::from(n));
     let mut plain = *start;
@@ -43,7 +45,7 @@ fn agrees274(start: &Plain274, n: u32) -> Option<bool> {
     Some(counters.face() == plain.face())
 }
 
-fn agrees167(start: &Plain167, n: u32) -> Option<bool> {
+fn agrees167(start: &Mm58167b, n: u32) -> Option<bool> {
     let mut counters = Running167::from_face(&start.face())?;
     counters.advance(u64::from(n));
     let mut plain = *start;
@@ -53,19 +55,28 @@ fn agrees167(start: &Plain167, n: u32) -> Option<bool> {
     Some(counters.face() == plain.face())
 }
 
-fn plain274(date: (u8, u8), year: (u8, u8), hour: (u8, bool, bool)) -> Plain274 {
-    Plain274 {
-        tenths: 9,
-        seconds: 59,
-        minutes: 59,
+// A tenth before the hour ends.
+fn plain274(date: (u8, u8), year: (u8, u8), hour: (u8, bool, bool)) -> Mm58274c {
+    Mm58274c {
+        low: [from_zero(9, 9), from_zero(59, 59), from_zero(59, 59)],
         hours: hour.0,
         pm: hour.1,
-        hours24: hour.2,
-        weekday: 7,
-        day: date.0,
-        month: date.1,
-        leap: year.0,
-        year: year.1,
+        mode24: hour.2,
+        calendar: Calendar::of(date.0, date.1, year.0, year.1, true),
+    }
+}
+
+// A millisecond before midnight.
+fn plain167(day: u8, month: u8) -> Mm58167b {
+    Mm58167b {
+        low: [
+            from_zero(9, 9),
+            from_zero(99, 99),
+            from_zero(59, 59),
+            from_zero(59, 59),
+            from_zero(23, 23),
+        ],
+        calendar: Calendar::of(day, month, 0, 0, false),
     }
 }
 
@@ -122,17 +133,7 @@ fn month_ends_and_midnight_by_milliseconds() -> Result<(), Fail> {
     let mut lawful = 0u32;
     for (day, month) in DATES {
         for n in [0, 1, 2, 1_001, 3_600_001] {
-            let start = Plain167 {
-                milliseconds: 9,
-                hundredths: 99,
-                seconds: 59,
-                minutes: 59,
-                hours: 23,
-                weekday: 7,
-                day,
-                month,
-            };
-            if let Some(agrees) = agrees167(&start, n) {
+            if let Some(agrees) = agrees167(&plain167(day, month), n) {
                 check(agrees)?;
                 lawful = lawful.saturating_add(1);
             }

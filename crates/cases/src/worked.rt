@@ -1,5 +1,6 @@
 // The worked cases, run.
 use clock::divider::Divider;
+use clock::mm58167b::Running as Running167;
 use clock::mm58274c::Running;
 use clock::worked::worked_cases;
 use std::test::*;
@@ -21,7 +22,7 @@ fn cycles_into_steps() -> Result<(), Fail> {
 }
 
 // The face so many steps on; none where the first is not lawful.
-pub fn steps_on(face: &[u8; 15], steps: u64) -> Option<[u8; 15]> {
+pub(crate) fn steps_on(face: &[u8; 15], steps: u64) -> Option<[u8; 15]> {
     let mut counters = Running::from_face(face)?;
     counters.advance(steps);
     Some(counters.face())
@@ -79,4 +80,21 @@ fn unlawful_faces() -> Result<(), Fail> {
         check(Running::from_face(&face).is_none())?;
     }
     check(Running::from_face(&[9, 9, 5, 9, 5, 3, 2, 1, 2, 2, 0, 4, 8, 1]).is_none())
+}
+
+#[test]
+fn unlawful_faces_without_leap_years() -> Result<(), Fail> {
+    // 29 February, hour 24, weekday 0, day 0, month 13, a digit above 9
+    let faces = [
+        [0, 0, 0, 0, 0, 0, 0, 0, 0, 1, 9, 2, 2, 0],
+        [0, 0, 0, 0, 0, 0, 0, 4, 2, 1, 1, 0, 1, 0],
+        [0, 0, 0, 0, 0, 0, 0, 0, 0, 0, 1, 0, 1, 0],
+        [0, 0, 0, 0, 0, 0, 0, 0, 0, 1, 0, 0, 1, 0],
+        [0, 0, 0, 0, 0, 0, 0, 0, 0, 1, 1, 0, 3, 1],
+        [0, 10, 0, 0, 0, 0, 0, 0, 0, 1, 1, 0, 1, 0],
+    ];
+    for face in faces {
+        check(Running167::from_face(&face).is_none())?;
+    }
+    check(Running167::from_face(&[0, 0, 0, 0, 0, 0, 0, 0, 0, 1, 1, 0, 1, 0]).is_some())
 }

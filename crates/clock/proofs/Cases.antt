@@ -61,6 +61,7 @@ hundred c h w =
     })
 
 pub worked-cases : WorkedCases 36525
+unfolding step
 worked-cases = record {
   no-tenth-in-3275-cycles = tenths-counted .0;
   one-tenth-in-3276-cycles = tenths-counted .1;

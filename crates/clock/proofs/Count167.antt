@@ -29,6 +29,7 @@ pub record Counted (n z a b k days : ℕ) (c e : Counters) : Type 0 where
   pub date : _≡_ {A = MonthDay} (e .day, e .month, tt) (times days next-month-day (c .day, c .month, tt))
 
 pub counted : (n z a b k days : ℕ) (c e : Counters) → InRange c → Counted n z a b k days c e → shown e ≡ times n step (shown c)
+unfolding step
 counted n z a b k days c e h t =
     let ok = fit-ok c h in
     let d = week-on (dates plain) 1 6 year days (c .weekday) (e .weekday) (nest c .1 .1 .1 .1 .1 .1) (nest e .1 .1 .1 .1 .1 .1) (h .weekday .0) (h .weekday .1) (t .weekday) (t .date) in

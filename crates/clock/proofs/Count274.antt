@@ -33,6 +33,7 @@ pub record Counted (n a b k days : ℕ) (c e : Counters) : Type 0 where
   pub date : _≡_ {A = Date} (e .day, e .month, (e .leap, e .year)) (times days next-date (c .day, c .month, (c .leap, c .year)))
 
 pub counted : (n a b k days : ℕ) (c e : Counters) → InRange c → Counted n a b k days c e → shown e ≡ times n step (shown c)
+unfolding step
 counted n a b k days c e h t =
     let ok = fit-ok c h in
     let d = week-on (dates century) 6 1 hundred-years days (c .weekday) (e .weekday) (nest c .1 .1 .1 .1 .1) (nest e .1 .1 .1 .1 .1) (h .weekday .0) (h .weekday .1) (t .weekday) (t .date) in

@@ -117,4 +117,5 @@ layout = record {
 }
 
 pub round-law : RoundLaw Lawful step 220752000000
+unfolding step
 round-law = layout-law layout

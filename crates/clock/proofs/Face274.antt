@@ -173,4 +173,5 @@ layout = record {
 }
 
 pub round-law : RoundLaw Lawful step 220903200000
+unfolding step
 round-law = layout-law layout

@@ -39,6 +39,7 @@ module _ (f : List ℕ) where
     pub month : (x .date .month ≡ d 12 + 10 * d 13) × (d 12 ≤ 9) × (d 13 ≤ 9)
 
   pub started : (x : Running) → length f ≡ 14 → Shows x → (face x ≡ f) × Lawful f
+  unfolding face
   started x len s =
       let t : x .milliseconds ≡ d 0 = omega arith in
       let w : x .weekday ≡ d 9 = omega arith in

@@ -55,6 +55,7 @@ module _ (f : List ℕ) where
     pub weekday : (x .weekday ≡ d 13 + 10 * 0) × (d 13 ≤ 9)
 
   pub started : (x : Running) → length f ≡ 15 → Shows x → (face x ≡ f) × Lawful f
+  unfolding face
   started x len s =
       let t : x .tenths ≡ d 0 = omega arith in
       let w : x .weekday ≡ d 13 = omega arith in

@@ -126,5 +126,5 @@ pub record Lawful (face : List ℕ) : Type 0 where
   pub decimal : (k : ℕ) → k < 14 → getD face k 0 ≤ 9
   pub in-range : InRange (read face)
 
-abbrev pub step : List ℕ → List ℕ
+unfoldable pub step : List ℕ → List ℕ
 step face = shown (tick (read face))

@@ -22,5 +22,5 @@ counters r = record {
 }
 
 -- the face that the counters show
-abbrev pub face : Running → List ℕ
+unfoldable pub face : Running → List ℕ
 face r = spec.shown (counters r)

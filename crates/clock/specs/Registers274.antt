@@ -31,5 +31,5 @@ counters r = record {
 }
 
 -- the face that the registers show
-abbrev pub face : Running → List ℕ
+unfoldable pub face : Running → List ℕ
 face r = spec.shown (counters r)

@@ -72,7 +72,7 @@ pub impl fmt::Display for Day as DayDisplay {
 }
 
 // What follows the time of day: nothing, AM or PM.
-pub fn half(hour: &HourOfDay) -> &'static str {
+pub(crate) fn half(hour: &HourOfDay) -> &'static str {
     match (hour.mode, hour.pm) {
         (HourMode::TwentyFour, _) => "",
         (HourMode::Twelve, false) => " AM",

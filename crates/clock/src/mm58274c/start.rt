@@ -118,9 +118,10 @@ impl Running {
         })
     }
 
-    // The face that the counters show.
+    // The face that the counters show, which is lawful at every moment.
     pub fn face(&self) -> [u8; 15]
-        ensures { λ r. ⌜ r ≡ face (now (self .entry)) ⌝ }
+        ensures shows { λ r. ⌜ r ≡ face (now (self .entry)) ⌝ }
+        ensures lawful { λ r. ⌜ Lawful r ⌝ }
     {
         let setting = Setting {
             leap: self.date.leap,

@@ -2,12 +2,13 @@ use mathlib.Core.Path.{ap}
 use Prim.Native.Nat.{_+_}
 use native.Mathlib.Omega.{arith}
 use Rattle.clock.specs.Mm58167b.{Counters}
-use Rattle.clock.specs.Registers167.{counters}
+use Rattle.clock.specs.Registers167.{counters, face}
 use Rattle.clock.proofs.Count167.{counted}
 use Rattle.clock.proofs.Start167.{running}
 use Rattle.clock.proofs.mm58167b.Running.advance.Needs as need
 
 pub returns : need.returns
+unfolding face
 returns c =
     let s = c .args .self .now in
     let d = c .later .result in

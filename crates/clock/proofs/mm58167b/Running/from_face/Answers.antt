@@ -2,11 +2,13 @@ use mathlib.Core.Path.{_≡_}
 use native.Mathlib.Omega.{arith}
 use borrow.Author.Needs.{needs}
 use lib.ListN.{length}
+use Rattle.clock.specs.Registers167.{face}
 use Rattle.clock.specs.declared.mm58167b.Running.{Running}
 use Rattle.clock.proofs.Start167.{started}
 use Rattle.clock.proofs.mm58167b.Running.from_face.Needs as need
 
 pub returns : need.returns
+unfolding face
 returns c =
     let f = c .args .digits .now in
     let len : length (c .args .digits .now) ≡ 14 = search needs in

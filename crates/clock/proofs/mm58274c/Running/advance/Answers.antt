@@ -3,12 +3,13 @@ use native.Mathlib.Omega.{arith}
 use Prim.Native.Nat.{_+_, _/_, _%_}
 use Rattle.clock.specs.Modes.{is24}
 use Rattle.clock.specs.Mm58274c.{Counters}
-use Rattle.clock.specs.Registers274.{counters}
+use Rattle.clock.specs.Registers274.{counters, face}
 use Rattle.clock.proofs.Count274.{counted}
 use Rattle.clock.proofs.Start274.{running}
 use Rattle.clock.proofs.mm58274c.Running.advance.Needs as need
 
 pub returns : need.returns
+unfolding face
 returns c =
     let s = c .args .self .now in
     let at = c .at .result in

@@ -3,6 +3,7 @@ use native.Mathlib.Omega.{arith}
 use borrow.Author.Needs.{needs}
 use lib.ListN.{length}
 use Rattle.clock.specs.Modes.{is24}
+use Rattle.clock.specs.Registers274.{face}
 use Rattle.clock.specs.declared.mm58274c.Running.{Running}
 use Rattle.clock.proofs.Start274.{no-date, started}
 use Rattle.clock.proofs.mm58274c.Running.from_face.Needs as need
@@ -11,6 +12,7 @@ pub returns-in-Break-date : need.returns-in-Break-date
 returns-in-Break-date c = rw (c .from-residual-in-Break-date .ensures) (no-date (c .args .digits .now) (c .from-register-setting .result .leap) (c .from-register-setting .ensures .leap) (c .in-Break-date .ensures tt))
 
 pub returns : need.returns
+unfolding face
 returns c =
     let f = c .args .digits .now in
     let len : length (c .args .digits .now) ≡ 15 = search needs in
