@@ -1,16 +1,15 @@
 -- How counters are put together: one counter, one that carries into another, two that move together, and one seen through another state.
---
-use mathlib.Core.Path.{_≡_, refl, sym, ap, subst, _∙_}
+use mathlib.Core.Path.{_≡_, refl, sym, ap, _∙_}
 use mathlib.Core.Bool.{Bool, true, false, cond, _&&_}
 use Prim.Native.Nat.{ℕ, zero, suc, _+_, _-_, _*_, _/_, _%_, _≤_, _<_, zero-le}
-use native.Mathlib.Nat.{add-zero, mod-eq-of-lt, mod-self, mod-lt, mod-add-mod, div-self, div-eq-of-lt, mul-pos}
+use native.Mathlib.Nat.{add-zero, mod-eq-of-lt, mod-self, div-self, div-eq-of-lt, mul-pos}
 use native.Mathlib.Omega.{arith}
 use lib.Dec.{eqb}
 use Rattle.std.proofs.shelf.Tests.{eqb-true, eqb-false, eq-eqb, ne-eqb, cases-eq}
 use mathlib.Core.Logic.{_⊎_, inl, inr}
 use Rattle.clock.specs.Times.{times}
 use Rattle.clock.specs.Counter.{after}
-use Rattle.clock.proofs.Modular.{shift-same, same-shift, carried, pair-below, pair-low, pair-high}
+use Rattle.clock.proofs.Modular.{carried, pair-below, pair-low, pair-high}
 use Rattle.clock.proofs.Rolling.{Rolling, run, run-ok, run-key, run-pos, lands, turn-ok, turn-key}
 
 -- ---- a counter from first to last

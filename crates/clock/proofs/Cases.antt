@@ -1,15 +1,12 @@
 -- The worked cases: single steps by computing, a hundred years by the law.
 use mathlib.Core.Path.{_≡_, refl, sym, ap, _∙_}
-use mathlib.Core.List.{List, [], _∷_}
-use mathlib.Core.Bool.{Bool}
-use Prim.Native.Nat.{ℕ, zero, _+_, _-_, _*_, _/_, _%_, _≤_, _<_}
+use Prim.Native.Nat.{_*_}
 use native.Mathlib.Omega.{arith}
-use lib.Dec.{eqb}
-use lib.ListN.{getD, set}
+use lib.ListN.{set}
 use Rattle.clock.specs.Times.{times}
 use Rattle.clock.specs.Cases.{WorkedCases}
-use Rattle.clock.specs.Parts.{Date, next-date, hour-of}
-use Rattle.clock.specs.Mm58274c.{Counters, InRange, Lawful, shown, read, step}
+use Rattle.clock.specs.Parts.{Date, next-date}
+use Rattle.clock.specs.Mm58274c.{Counters, InRange, shown, read, step}
 use Rattle.clock.proofs.Rolling.{met}
 use Rattle.clock.proofs.Dates.{dates, OkDate}
 use Rattle.clock.proofs.Years.{century}

@@ -1,11 +1,9 @@
 -- Many steps at once on the MM58167B: counter by counter, each by what the one below it carries.
-use mathlib.Core.Path.{_≡_, refl, sym, ap, subst, _∙_}
-use mathlib.Core.List.{List}
-use Prim.Native.Nat.{ℕ, _+_, _-_, _*_, _/_, _%_, _≤_, _<_, zero-le}
+use mathlib.Core.Path.{_≡_}
+use Prim.Native.Nat.{ℕ, _+_, _-_, _/_, _%_}
 use Rattle.clock.specs.Times.{times}
 use Rattle.clock.specs.Mm58167b.{Counters, InRange, shown, step}
 use Rattle.clock.specs.Parts.{MonthDay, next-month-day}
-use Rattle.clock.proofs.Rolling.{Rolling, run}
 use Rattle.clock.proofs.Cascade.{counter-into, counter-into-on}
 use Rattle.clock.proofs.Dates.{dates}
 use Rattle.clock.proofs.Years.{plain}

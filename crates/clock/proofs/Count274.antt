@@ -1,14 +1,10 @@
 -- Many steps at once on the MM58274C: counter by counter, each by what the one below it carries.
-use mathlib.Core.Path.{_≡_, refl, sym, ap, subst, _∙_}
-use mathlib.Core.Bool.{Bool}
-use mathlib.Core.List.{List}
-use Prim.Native.Nat.{ℕ, _+_, _-_, _*_, _/_, _%_, _≤_, _<_, zero-le}
-use native.Mathlib.Omega.{arith}
-use lib.Dec.{eqb, lit≤}
+use mathlib.Core.Path.{_≡_, sym, ap, _∙_}
+use Prim.Native.Nat.{ℕ, _+_, _-_, _/_, _%_}
 use Rattle.clock.specs.Times.{times}
 use Rattle.clock.specs.Mm58274c.{Counters, InRange, HoursInRange, shown, step, last-hour}
 use Rattle.clock.specs.Parts.{Date, next-date, hour-of}
-use Rattle.clock.proofs.Rolling.{Rolling, run, run-ok, run-pos, lands}
+use Rattle.clock.proofs.Rolling.{run, lands}
 use Rattle.clock.proofs.Cascade.{counter-into, counter-into-on, cascade-run}
 use Rattle.clock.proofs.Dates.{dates}
 use Rattle.clock.proofs.Years.{century}

@@ -1,14 +1,13 @@
 -- The MM58167B's face comes round.
-use mathlib.Core.Path.{_≡_, refl, sym, ap, subst, _∙_}
-use mathlib.Core.Bool.{Bool, true, false, cond, _&&_}
+use mathlib.Core.Path.{_≡_, refl, sym, subst, _∙_}
+use mathlib.Core.Bool.{false}
 use mathlib.Core.List.{List, [], _∷_}
-use Prim.Native.Nat.{ℕ, zero, suc, _+_, _-_, _*_, _/_, _%_, _≤_, _<_, zero-le}
+use Prim.Native.Nat.{ℕ, _≤_, zero-le}
 use native.Mathlib.Omega.{arith}
-use lib.Dec.{eqb, lit≤}
-use lib.ListN.{length, getD}
+use lib.Dec.{lit≤}
+use lib.ListN.{getD}
 use Rattle.std.proofs.shelf.Elements.{all-getD}
 use Rattle.clock.specs.Rounds.{RoundLaw}
-use Rattle.clock.specs.Counter.{after, days-of}
 use Rattle.clock.specs.Mm58167b.{Counters, InRange, Lawful, tick, shown, read, step}
 use Rattle.clock.proofs.Rolling.{Rolling}
 use Rattle.clock.proofs.Cascade.{counter-into}

@@ -2,12 +2,12 @@
 use mathlib.Core.Path.{_≡_, refl, sym, ap, subst, _∙_}
 use mathlib.Core.Bool.{true}
 use mathlib.Core.List.{List}
-use Prim.Native.Nat.{ℕ, zero, suc, _+_, _-_, _*_, _/_, _%_, _<_}
+use Prim.Native.Nat.{ℕ, zero, suc, _+_}
 use native.Mathlib.Nat.{zero-mod}
 use native.Mathlib.Omega.{arith}
 use Rattle.clock.specs.Times.{times}
 use Rattle.clock.specs.Rounds.{RoundLaw}
-use Rattle.clock.proofs.Rolling.{Rolling, run, run-ok, run-key, lands, meet, met}
+use Rattle.clock.proofs.Rolling.{Rolling, run, run-ok, meet, met}
 use Rattle.clock.proofs.Cascade.{through, through-run}
 
 pub times-sum : {S : Type 0} (f : S → S) (a b : ℕ) (s : S) → times (a + b) f s ≡ times b f (times a f s)

@@ -1,7 +1,7 @@
 -- Arithmetic of remainders that is not linear, over any round.
-use mathlib.Core.Path.{_≡_, refl, sym, ap, _∙_}
-use Prim.Native.Nat.{ℕ, zero, suc, _+_, _-_, _*_, _/_, _%_, _≤_, _<_}
-use native.Mathlib.Nat.{mod-eq-of-lt, mod-lt, mod-add-mod, add-mod-mod, add-mod-right, add-mul-div-left, add-mul-mod-self-left, div-eq-of-lt, div-add-mod, div-lt-iff-lt-mul, le-mul-of-pos-right, mul-comm, suc-mul}
+use mathlib.Core.Path.{_≡_, sym, ap, _∙_}
+use Prim.Native.Nat.{ℕ, suc, _+_, _-_, _*_, _/_, _%_, _≤_, _<_}
+use native.Mathlib.Nat.{mod-eq-of-lt, mod-add-mod, add-mod-mod, add-mod-right, add-mul-div-left, add-mul-mod-self-left, div-eq-of-lt, div-add-mod, div-lt-iff-lt-mul, le-mul-of-pos-right, mul-comm, suc-mul}
 use native.Mathlib.Omega.{arith}
 use lib.Arith.{mod-mul, digits-lt}
 

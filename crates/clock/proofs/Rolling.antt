@@ -1,15 +1,12 @@
 -- What rolls over: each turn moves its place on by one, modulo its round, and the place tells the state together with the key,
 -- which is what no turn changes.
---
 use mathlib.Core.Path.{_≡_, refl, sym, ap, subst, _∙_}
-use mathlib.Core.Bool.{Bool, true, false, _&&_}
-use Prim.Native.Nat.{ℕ, zero, suc, _+_, _-_, _*_, _/_, _%_, _≤_, _<_}
+use mathlib.Core.Bool.{Bool, true, false}
+use Prim.Native.Nat.{ℕ, zero, suc, _+_, _%_, _<_}
 use native.Mathlib.Nat.{add-zero, mod-eq-of-lt, mod-add-mod}
 use native.Mathlib.Omega.{arith}
-use lib.Dec.{eqb}
-use Rattle.std.proofs.shelf.Tests.{eqb-true, eqb-false}
 use Rattle.clock.specs.Times.{times}
-use Rattle.clock.proofs.Modular.{shift-same, same-shift, carried, pair-below, pair-low, pair-high}
+use Rattle.clock.proofs.Modular.{shift-same, same-shift}
 
 pub record Rolling (S : Type 0) : Type 1 where
   pub Ok : S → Type 0

@@ -34,7 +34,7 @@ module _ (f : List ℕ) where
   abbrev d : ℕ → ℕ
   d k = getD f k 0
 
-  pub no-date : (leap : ℕ) → leap ≡ d 14 / 4 → (DateShown (d 7) (d 8) (d 9) (d 10) (d 11) (d 12) leap → ⊥) → Lawful f → ⊥
+  pub no-date : (leap : ℕ) → leap ≡ d 14 / 4 → (DateShown (d 7, d 8) (d 9, d 10) (d 11, d 12) leap → ⊥) → Lawful f → ⊥
   no-date leap e apart h =
       let l = h .decimal in
       let r = h .in-range in

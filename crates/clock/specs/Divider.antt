@@ -1,6 +1,5 @@
 -- Cycles and steps. A cycle is one period of the crystal, a step one count of the chip's lowest counter:
 -- of every m cycles a divider drops the last d, and it divides the rest by k.
-use mathlib.Core.Path.{_≡_}
 use Prim.Native.Nat.{ℕ, zero, suc, _+_, _-_, _*_, _/_, _%_, min, _≤_, _<_}
 use mathlib.Core.Bool.{true, false}
 use lib.Dec.{eqb}

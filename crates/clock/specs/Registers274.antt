@@ -1,5 +1,4 @@
 -- What the registers of a running MM58274C show.
-use mathlib.Core.Bool.{Bool}
 use mathlib.Core.List.{List}
 use Prim.Native.Nat.{ℕ}
 use Rattle.clock.specs.Mm58274c as spec

@@ -4,20 +4,25 @@ use Prim.Native.Nat.{ℕ, _+_, _*_, _≤_}
 use lib.Dec.{eqb}
 use Rattle.clock.specs.Counter.{days-of}
 use Rattle.clock.specs.Mm58274c.{HoursInRange}
+use Rattle.clock.specs.declared.digits.Digits.{Digits}
 
--- two decimal digits that show a number from first to last
-abbrev pub TwoDigits : ℕ → ℕ → ℕ → ℕ → Type 0
-TwoDigits units tens first last = (units ≤ 9) × (tens ≤ 9) × (first ≤ units + 10 * tens) × (units + 10 * tens ≤ last)
+-- the number that two digits show
+abbrev pub number : Digits → ℕ
+number d = d .0 + 10 * d .1
 
--- the digits of an hour under a mode
-abbrev pub HourShown : ℕ → ℕ → Bool → Bool → Type 0
-HourShown units tens pm mode24 = (units ≤ 9) × (tens ≤ 9) × HoursInRange mode24 (units + 10 * tens) pm
+-- decimal digits that show a number from first to last
+abbrev pub Between : Digits → ℕ → ℕ → Type 0
+Between d first last = (d .0 ≤ 9) × (d .1 ≤ 9) × (first ≤ number d) × (number d ≤ last)
 
--- the digits of day, month and year, with a leap count
-abbrev pub DateShown : ℕ → ℕ → ℕ → ℕ → ℕ → ℕ → ℕ → Type 0
-DateShown d0 d1 m0 m1 y0 y1 leap =
-    TwoDigits d0 d1 1 (days-of (m0 + 10 * m1) (eqb leap 0)) × TwoDigits m0 m1 1 12 × TwoDigits y0 y1 0 99 × (leap ≤ 3)
+-- an hour under a mode
+abbrev pub HourShown : Digits → Bool → Bool → Type 0
+HourShown hours pm mode24 = (hours .0 ≤ 9) × (hours .1 ≤ 9) × HoursInRange mode24 (number hours) pm
 
--- the digits of day and month, without leap years
-abbrev pub MonthDayShown : ℕ → ℕ → ℕ → ℕ → Type 0
-MonthDayShown d0 d1 m0 m1 = TwoDigits d0 d1 1 (days-of (m0 + 10 * m1) false) × TwoDigits m0 m1 1 12
+-- a date with its leap count
+abbrev pub DateShown : Digits → Digits → Digits → ℕ → Type 0
+DateShown day month year leap =
+    Between day 1 (days-of (number month) (eqb leap 0)) × Between month 1 12 × Between year 0 99 × (leap ≤ 3)
+
+-- a day of a year that is never a leap year
+abbrev pub MonthDayShown : Digits → Digits → Type 0
+MonthDayShown day month = Between day 1 (days-of (number month) false) × Between month 1 12

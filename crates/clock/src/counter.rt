@@ -1,6 +1,6 @@
 // A counter from 0 that comes round.
 ghost use mathlib.Core.Path.{_≡_};
-ghost use Prim.Native.Nat.{ℕ, _+_, _/_, _%_, _<_};
+ghost use Prim.Native.Nat.{_+_, _/_, _%_, _<_};
 
 // The counter after `steps` counts, and how often it carried.
 pub(crate) fn turned(value: u8, places: u8, steps: u64) -> (u8, u64)

@@ -1,5 +1,5 @@
 // A date with its leap count.
-ghost use Prim.Native.Nat.{ℕ, _≤_};
+ghost use Prim.Native.Nat.{_≤_};
 ghost use lib.Dec.{eqb};
 ghost use Rattle.clock.specs.Counter.{days-of};
 

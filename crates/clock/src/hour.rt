@@ -1,5 +1,5 @@
 // The hour of the day, as its mode shows it.
-ghost use Prim.Native.Nat.{ℕ, _≤_};
+ghost use Prim.Native.Nat.{_≤_};
 ghost use mathlib.Core.Path.{_≡_};
 ghost use mathlib.Core.Bool.{false, _&&_};
 ghost use Rattle.clock.specs.Mm58274c.{first-hour, top-hour};

@@ -1,5 +1,5 @@
 // The counters of an MM58167B. They hold a lawful face at every moment: the ghost fields say so.
-ghost use Prim.Native.Nat.{ℕ, _≤_};
+ghost use Prim.Native.Nat.{_≤_};
 use crate::month_day::MonthDay;
 
 mod advance;

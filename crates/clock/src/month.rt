@@ -1,6 +1,6 @@
 // The months of a year.
 ghost use mathlib.Core.Path.{_≡_};
-ghost use Prim.Native.Nat.{ℕ, _≤_, _<_};
+ghost use Prim.Native.Nat.{_≤_, _<_};
 ghost use Rattle.clock.specs.Counter.{days-of};
 ghost use Rattle.clock.specs.Parts.{Dated, day-of-year, year-days};
 

@@ -1,5 +1,5 @@
 // A day of a year that is never a leap year.
-ghost use Prim.Native.Nat.{ℕ, _≤_};
+ghost use Prim.Native.Nat.{_≤_};
 ghost use mathlib.Core.Bool.{false};
 ghost use Rattle.clock.specs.Counter.{days-of};
 

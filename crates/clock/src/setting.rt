@@ -1,6 +1,6 @@
 // The MM58274C's setting register: bits 3 and 2 the leap count, bit 1 PM, bit 0 24-hour mode.
 ghost use mathlib.Core.Path.{_≡_};
-ghost use Prim.Native.Nat.{ℕ, _/_, _%_, _≤_};
+ghost use Prim.Native.Nat.{_/_, _%_, _≤_};
 ghost use lib.Dec.{eqb};
 ghost use Rattle.clock.specs.Mm58274c.{setting};
 ghost use Rattle.clock.specs.Modes.{is24};

@@ -1,6 +1,6 @@
 // Follows a caption machine's clock over midnight, over a day and over a round, and tells what each wait counted and what the clock showed.
 ghost use mathlib.Core.Path.{_≡_};
-ghost use Prim.Native.Nat.{ℕ, _+_, _%_, _≤_};
+ghost use Prim.Native.Nat.{_+_, _%_, _≤_};
 ghost use Rattle.clock.specs.Divider.{period, stepped, tenths};
 ghost use Rattle.clock.specs.Mm58274c.{step};
 ghost use Rattle.clock.specs.Registers274.{face};

@@ -1,6 +1,6 @@
 // A date, many days later.
 ghost use mathlib.Core.Path.{_≡_};
-ghost use Prim.Native.Nat.{ℕ, _+_, _-_, _*_, _<_, _≤_, min};
+ghost use Prim.Native.Nat.{_+_, _-_, _*_, _≤_, min};
 ghost use Rattle.clock.specs.Times.{times};
 ghost use Rattle.clock.specs.Parts.{next-date};
 ghost use Rattle.clock.specs.Registers274.{dated};

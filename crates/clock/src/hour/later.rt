@@ -1,6 +1,6 @@
 // The hour of the day by the hours since midnight.
 ghost use mathlib.Core.Path.{_≡_};
-ghost use Prim.Native.Nat.{ℕ, _<_};
+ghost use Prim.Native.Nat.{_<_};
 ghost use Rattle.clock.specs.Registers274.{hour};
 use crate::hour::HourOfDay;
 use crate::mode::HourMode;

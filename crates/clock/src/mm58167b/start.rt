@@ -1,10 +1,9 @@
 // Counters from the digits of a face, and back.
 ghost use mathlib.Core.Path.{_≡_};
-ghost use Prim.Native.Nat.{ℕ, _+_, _*_, _≤_};
 ghost use Rattle.std.specs.Options.{Cases as BySome};
 ghost use Rattle.clock.specs.Mm58167b.{Lawful};
 ghost use Rattle.clock.specs.Registers167.{face};
-ghost use Rattle.clock.specs.Start.{MonthDayShown};
+ghost use Rattle.clock.specs.Start.{number, MonthDayShown};
 use crate::digits::Digits;
 use crate::mm58167b::Running;
 use crate::month::days_of;
@@ -12,7 +11,7 @@ use crate::month_day::MonthDay;
 
 // The day and month that their digits show.
 fn month_day_shown(day: Digits, month: Digits) -> Option<MonthDay>
-    ensures { λ r. ⌜ BySome r (MonthDayShown (day .units) (day .tens) (month .units) (month .tens) → ⊥) (λ d. (d .day ≡ day .units + 10 * day .tens) × (d .month ≡ month .units + 10 * month .tens) × MonthDayShown (day .units) (day .tens) (month .units) (month .tens)) ⌝ }
+    ensures { λ r. ⌜ BySome r (MonthDayShown day month → ⊥) (λ d. (d .day ≡ number day) × (d .month ≡ number month) × MonthDayShown day month) ⌝ }
 {
     let month = month.between(1, 12)?;
     let day = day.between(1, days_of(month, false))?;
@@ -24,37 +23,17 @@ impl Running {
     pub fn from_face(digits: &[u8]) -> Option<Running>
         ensures { λ r. ⌜ BySome r (Lawful (now (digits .entry)) → ⊥) (λ x. (face x ≡ now (digits .entry)) × Lawful (now (digits .entry))) ⌝ }
     {
-        let [t, c0, c1, s0, s1, m0, m1, h0, h1, w, d0, d1, o0, o1] = digits else {
+        if digits.len() != 14 {
             return None;
-        };
-        let milliseconds = Digits { units: *t, tens: 0 }.between(0, 9)?;
-        let hundredths = Digits {
-            units: *c0,
-            tens: *c1,
-        }.between(0, 99)?;
-        let seconds = Digits {
-            units: *s0,
-            tens: *s1,
-        }.between(0, 59)?;
-        let minutes = Digits {
-            units: *m0,
-            tens: *m1,
-        }.between(0, 59)?;
-        let hours = Digits {
-            units: *h0,
-            tens: *h1,
-        }.between(0, 23)?;
-        let weekday = Digits { units: *w, tens: 0 }.between(1, 7)?;
-        let date = month_day_shown(
-            Digits {
-                units: *d0,
-                tens: *d1,
-            },
-            Digits {
-                units: *o0,
-                tens: *o1,
-            },
-        )?;
+        }
+        let milliseconds = Digits(digits[0], 0).between(0, 9)?;
+        let hundredths = Digits(digits[1], digits[2]).between(0, 99)?;
+        let seconds = Digits(digits[3], digits[4]).between(0, 59)?;
+        let minutes = Digits(digits[5], digits[6]).between(0, 59)?;
+        let hours = Digits(digits[7], digits[8]).between(0, 23)?;
+        let weekday = Digits(digits[9], 0).between(1, 7)?;
+        let day = Digits(digits[10], digits[11]);
+        let date = month_day_shown(day, Digits(digits[12], digits[13]))?;
         Some(Running {
             milliseconds,
             hundredths,

@@ -1,12 +1,10 @@
 // Counters from the digits of a face, and back.
 ghost use mathlib.Core.Path.{_≡_};
-ghost use Prim.Native.Nat.{ℕ, _+_, _*_, _≤_};
-ghost use lib.Dec.{eqb};
 ghost use Rattle.std.specs.Options.{Cases as BySome};
 ghost use Rattle.clock.specs.Mm58274c.{Lawful};
 ghost use Rattle.clock.specs.Modes.{is24};
 ghost use Rattle.clock.specs.Registers274.{face};
-ghost use Rattle.clock.specs.Start.{HourShown, DateShown};
+ghost use Rattle.clock.specs.Start.{number, HourShown, DateShown};
 use crate::date::Date;
 use crate::digits::Digits;
 use crate::hour::HourOfDay;
@@ -17,7 +15,7 @@ use crate::setting::Setting;
 
 // The hour that its digits show under a mode.
 fn hour_shown(hours: Digits, pm: bool, mode: HourMode) -> Option<HourOfDay>
-    ensures { λ r. ⌜ BySome r (HourShown (hours .units) (hours .tens) pm (is24 mode) → ⊥) (λ h. (h .hours ≡ hours .units + 10 * hours .tens) × (h .pm ≡ pm) × (h .mode ≡ mode) × HourShown (hours .units) (hours .tens) pm (is24 mode)) ⌝ }
+    ensures { λ r. ⌜ BySome r (HourShown hours pm (is24 mode) → ⊥) (λ h. (h .hours ≡ number hours) × (h .pm ≡ pm) × (h .mode ≡ mode) × HourShown hours pm (is24 mode)) ⌝ }
 {
     let hours = match mode {
         HourMode::TwentyFour => {
@@ -33,7 +31,7 @@ fn hour_shown(hours: Digits, pm: bool, mode: HourMode) -> Option<HourOfDay>
 
 // The date that its digits show with a leap count.
 fn date_shown(day: Digits, month: Digits, year: Digits, leap: u8) -> Option<Date>
-    ensures { λ r. ⌜ BySome r (DateShown (day .units) (day .tens) (month .units) (month .tens) (year .units) (year .tens) leap → ⊥) (λ d. (d .day ≡ day .units + 10 * day .tens) × (d .month ≡ month .units + 10 * month .tens) × (d .year ≡ year .units + 10 * year .tens) × (d .leap ≡ leap) × DateShown (day .units) (day .tens) (month .units) (month .tens) (year .units) (year .tens) leap) ⌝ }
+    ensures { λ r. ⌜ BySome r (DateShown day month year leap → ⊥) (λ d. (d .day ≡ number day) × (d .month ≡ number month) × (d .year ≡ number year) × (d .leap ≡ leap) × DateShown day month year leap) ⌝ }
 {
     let month = month.between(1, 12)?;
     let year = year.between(0, 99)?;
@@ -54,60 +52,18 @@ impl Running {
     pub fn from_face(digits: &[u8]) -> Option<Running>
         ensures { λ r. ⌜ BySome r (Lawful (now (digits .entry)) → ⊥) (λ x. (face x ≡ now (digits .entry)) × Lawful (now (digits .entry))) ⌝ }
     {
-        let [
-            t,
-            s0,
-            s1,
-            m0,
-            m1,
-            h0,
-            h1,
-            d0,
-            d1,
-            o0,
-            o1,
-            y0,
-            y1,
-            w,
-            setting,
-        ] = digits
-        else {
+        if digits.len() != 15 {
             return None;
-        };
-        let setting = Setting::from_register(*setting);
-        let seconds = Digits {
-            units: *s0,
-            tens: *s1,
-        }.between(0, 59)?;
-        let minutes = Digits {
-            units: *m0,
-            tens: *m1,
-        }.between(0, 59)?;
-        let hour = hour_shown(
-            Digits {
-                units: *h0,
-                tens: *h1,
-            },
-            setting.pm,
-            setting.mode,
-        )?;
-        let date = date_shown(
-            Digits {
-                units: *d0,
-                tens: *d1,
-            },
-            Digits {
-                units: *o0,
-                tens: *o1,
-            },
-            Digits {
-                units: *y0,
-                tens: *y1,
-            },
-            setting.leap,
-        )?;
-        let tenths = Digits { units: *t, tens: 0 }.between(0, 9)?;
-        let weekday = Digits { units: *w, tens: 0 }.between(1, 7)?;
+        }
+        let setting = Setting::from_register(digits[14]);
+        let seconds = Digits(digits[1], digits[2]).between(0, 59)?;
+        let minutes = Digits(digits[3], digits[4]).between(0, 59)?;
+        let hour = hour_shown(Digits(digits[5], digits[6]), setting.pm, setting.mode)?;
+        let day = Digits(digits[7], digits[8]);
+        let month = Digits(digits[9], digits[10]);
+        let date = date_shown(day, month, Digits(digits[11], digits[12]), setting.leap)?;
+        let tenths = Digits(digits[0], 0).between(0, 9)?;
+        let weekday = Digits(digits[13], 0).between(1, 7)?;
         Some(Running {
             tenths,
             seconds,

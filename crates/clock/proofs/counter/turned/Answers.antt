@@ -1,8 +1,6 @@
-use mathlib.Core.Path.{_≡_}
-use Prim.Native.Nat.{_+_, _/_, _%_, _<_, _≤_}
+use Prim.Native.Nat.{_<_}
 use native.Mathlib.Nat.{add-mod-mod}
 use native.Mathlib.Omega.{arith}
-use borrow.Author.Needs.{needs}
 use Rattle.clock.proofs.Modular.{quotient-parts, quotient-below}
 use Rattle.clock.proofs.counter.turned.Needs as need
 

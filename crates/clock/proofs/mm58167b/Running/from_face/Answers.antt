@@ -1,6 +1,5 @@
 use mathlib.Core.Path.{_≡_}
 use native.Mathlib.Omega.{arith}
-use borrow.Author.Needs.{needs}
 use lib.ListN.{length}
 use Rattle.clock.specs.Registers167.{face}
 use Rattle.clock.specs.declared.mm58167b.Running.{Running}
@@ -11,7 +10,7 @@ pub returns : need.returns
 unfolding face
 returns c =
     let f = c .args .digits .now in
-    let len : length (c .args .digits .now) ≡ 14 = search needs in
+    let len : length (c .args .digits .now) ≡ 14 = omega arith in
     let t = c .in-Continue-milliseconds .ensures tt in
     let b = c .in-Continue-hundredths .ensures tt in
     let s = c .in-Continue-seconds .ensures tt in

@@ -1,6 +1,5 @@
 use mathlib.Core.Path.{_≡_, ap, _∙_}
 use native.Mathlib.Omega.{arith}
-use borrow.Author.Needs.{needs}
 use lib.ListN.{length}
 use Rattle.clock.specs.Modes.{is24}
 use Rattle.clock.specs.Registers274.{face}
@@ -15,7 +14,7 @@ pub returns : need.returns
 unfolding face
 returns c =
     let f = c .args .digits .now in
-    let len : length (c .args .digits .now) ≡ 15 = search needs in
+    let len : length (c .args .digits .now) ≡ 15 = omega arith in
     let t = c .in-Continue-tenths .ensures tt in
     let s = c .in-Continue-seconds .ensures tt in
     let m = c .in-Continue-minutes .ensures tt in

@@ -1,7 +1,5 @@
-use mathlib.Core.Path.{_≡_, _∙_, ap}
-use mathlib.Core.Bool.{Bool}
+use mathlib.Core.Path.{_∙_, ap}
 use native.Mathlib.Omega.{arith}
-use Prim.Native.Nat.{ℕ}
 use mir.Val.{boolByte}
 use Rattle.clock.proofs.Masks.{register, bit-of}
 use Rattle.clock.proofs.setting.Setting.register.Needs as need
