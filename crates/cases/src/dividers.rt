@@ -83,6 +83,10 @@ fn periods() -> Result<(), Fail> {
     check_eq(period(1, 0, 1), Some(1))?;
     check_eq(period(5, 4, 3), Some(15))?;
     check_eq(period(12, 5, 14), Some(24))?;
+    check_eq(
+        period(u32::MAX, 0, u32::MAX - 1),
+        Some(18_446_744_060_824_649_730),
+    )?;
     check_eq(period(16, 16, 3072), None)?;
     check_eq(period(0, 0, 1), None)?;
     check_eq(period(16, 1, 0), None)

@@ -9,7 +9,7 @@ use Rattle.clock.proofs.Dates.{dates}
 use Rattle.clock.proofs.Years.{plain}
 use Rattle.clock.proofs.Weeks.{year, week-on}
 use Rattle.clock.proofs.FaceLaw.{layout-on}
-use Rattle.clock.proofs.Face167.{week-and-date, nest, layout, fit-ok}
+use Rattle.clock.proofs.Face167.{week-and-date, nest, layout, range-ok}
 
 -- e is c after n milliseconds, where z, a, b, k and days are what each counter carries into the next
 pub record Counted (n z a b k days : ℕ) (c e : Counters) : Type 0 where
@@ -29,7 +29,7 @@ pub record Counted (n z a b k days : ℕ) (c e : Counters) : Type 0 where
 pub counted : (n z a b k days : ℕ) (c e : Counters) → InRange c → Counted n z a b k days c e → shown e ≡ times n step (shown c)
 unfolding step
 counted n z a b k days c e h t =
-    let ok = fit-ok c h in
+    let ok = range-ok c h in
     let d = week-on (dates plain) 1 6 year days (c .weekday) (e .weekday) (nest c .1 .1 .1 .1 .1 .1) (nest e .1 .1 .1 .1 .1 .1) (h .weekday .0) (h .weekday .1) (t .weekday) (t .date) in
     let g = counter-into-on 23 week-and-date k days (c .hours) (e .hours) (nest c .1 .1 .1 .1 .1) (nest e .1 .1 .1 .1 .1) (h .hours) (ok .1 .1 .1 .1 .1) (t .hours) (t .into-days) d in
     let m = counter-into-on 59 (counter-into 23 week-and-date) b k (c .minutes) (e .minutes) (nest c .1 .1 .1 .1) (nest e .1 .1 .1 .1) (h .minutes) (ok .1 .1 .1 .1) (t .minutes) (t .into-hours) g in

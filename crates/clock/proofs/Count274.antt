@@ -11,7 +11,7 @@ use Rattle.clock.proofs.Years.{century}
 use Rattle.clock.proofs.Weeks.{hundred-years, week-on}
 use Rattle.clock.proofs.Hours.{hours, hours-end}
 use Rattle.clock.proofs.FaceLaw.{layout-on}
-use Rattle.clock.proofs.Face274.{week-and-date, day-and-hours, nest, layout, fit-ok}
+use Rattle.clock.proofs.Face274.{week-and-date, day-and-hours, nest, layout, range-ok}
 
 -- e is c after n tenths, where a, b, k and days are what the tenths, seconds, minutes and hours carry
 pub record Counted (n a b k days : ℕ) (c e : Counters) : Type 0 where
@@ -31,7 +31,7 @@ pub record Counted (n a b k days : ℕ) (c e : Counters) : Type 0 where
 pub counted : (n a b k days : ℕ) (c e : Counters) → InRange c → Counted n a b k days c e → shown e ≡ times n step (shown c)
 unfolding step
 counted n a b k days c e h t =
-    let ok = fit-ok c h in
+    let ok = range-ok c h in
     let d = week-on (dates century) 6 1 hundred-years days (c .weekday) (e .weekday) (nest c .1 .1 .1 .1 .1) (nest e .1 .1 .1 .1 .1) (h .weekday .0) (h .weekday .1) (t .weekday) (t .date) in
     let g : nest e .1 .1 .1 ≡ run day-and-hours k (nest c .1 .1 .1) =
     (λ i. (lands hours k (nest c .1 .1 .1 .0) (nest e .1 .1 .1 .0) (h .hours) (t .fits) (t .hours) (t .mode) i, (d ∙ ap (λ x. run week-and-date x (nest c .1 .1 .1 .1)) (t .into-days)) i))

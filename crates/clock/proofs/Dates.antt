@@ -1,4 +1,4 @@
--- The cycle of day, month and year, over any way to counter-into years.
+-- Day, month and year roll over, over any way to count years.
 use mathlib.Core.Path.{_≡_, refl, sym, ap, subst, _∙_}
 use mathlib.Core.Bool.{Bool, true, false, cond, _&&_, _||_}
 use Prim.Native.Nat.{ℕ, zero, suc, _+_, _-_, _%_, _≤_, _<_}
@@ -88,7 +88,7 @@ days-most m leap = go (eqb m 2) leap (eqb m 4 || eqb m 6 || eqb m 9 || eqb m 11)
     go false b true = omega arith
     go false b false = omega arith
 
--- A way to counter-into years: which are leap years, and on which day of the round each begins.
+-- A way to count years: which are leap years, and on which day of the round each begins.
 pub record Years (Y : Type 0) : Type 1 where
   pub Ok : Y → Type 0
   pub Key : Type 0

@@ -42,11 +42,11 @@ flat p = record {
   month = p .1 .1 .1 .1 .1 .1 .1;
 }
 
-pub fit-ok : (c : Counters) → InRange c → chip .Ok (nest c)
-fit-ok c h = ((zero-le, h .milliseconds), ((zero-le, h .hundredths), ((zero-le, h .seconds), ((zero-le, h .minutes), ((zero-le, h .hours), (h .weekday, ((h .month .0, h .month .1, h .day .0, h .day .1), tt)))))))
+pub range-ok : (c : Counters) → InRange c → chip .Ok (nest c)
+range-ok c h = ((zero-le, h .milliseconds), ((zero-le, h .hundredths), ((zero-le, h .seconds), ((zero-le, h .minutes), ((zero-le, h .hours), (h .weekday, ((h .month .0, h .month .1, h .day .0, h .day .1), tt)))))))
 
-pub ok-fit : (c : Counters) → chip .Ok (nest c) → InRange c
-ok-fit c h = record {
+pub ok-range : (c : Counters) → chip .Ok (nest c) → InRange c
+ok-range c h = record {
   milliseconds = h .0 .1;
   hundredths = h .1 .0 .1;
   seconds = h .1 .1 .0 .1;
@@ -107,8 +107,8 @@ layout = record {
   flat = flat;
   back = λ c. refl;
   ticks = λ c. refl;
-  fit-ok = fit-ok;
-  ok-fit = ok-fit;
+  range-ok = range-ok;
+  ok-range = ok-range;
   fits = λ f h. h .in-range;
   lawful = lawful-shown;
   read-shown = read-shown;

@@ -51,11 +51,11 @@ flat p = record {
   year = p .1 .1 .1 .1 .1 .2 .1;
 }
 
-pub fit-ok : (c : Counters) → InRange c → chip .Ok (nest c)
-fit-ok c h = ((zero-le, h .tenths), ((zero-le, h .seconds), ((zero-le, h .minutes), (h .hours, (h .weekday, ((h .month .0, h .month .1, h .day .0, h .day .1), (h .leap, h .year)))))))
+pub range-ok : (c : Counters) → InRange c → chip .Ok (nest c)
+range-ok c h = ((zero-le, h .tenths), ((zero-le, h .seconds), ((zero-le, h .minutes), (h .hours, (h .weekday, ((h .month .0, h .month .1, h .day .0, h .day .1), (h .leap, h .year)))))))
 
-pub ok-fit : (c : Counters) → chip .Ok (nest c) → InRange c
-ok-fit c h = record {
+pub ok-range : (c : Counters) → chip .Ok (nest c) → InRange c
+ok-range c h = record {
   tenths = h .0 .1;
   seconds = h .1 .0 .1;
   minutes = h .1 .1 .0 .1;
@@ -163,8 +163,8 @@ layout = record {
   flat = flat;
   back = λ c. refl;
   ticks = λ c. refl;
-  fit-ok = fit-ok;
-  ok-fit = ok-fit;
+  range-ok = range-ok;
+  ok-range = ok-range;
   fits = λ f h. h .in-range;
   lawful = lawful-shown;
   read-shown = read-shown;

@@ -44,8 +44,8 @@ pub record Layout (C : Type 0) : Type 1 where
   pub flat : S → C
   pub back : (c : C) → flat (nest c) ≡ c
   pub ticks : (c : C) → nest (tick c) ≡ counting .turn true (nest c)
-  pub fit-ok : (c : C) → InRange c → counting .Ok (nest c)
-  pub ok-fit : (c : C) → counting .Ok (nest c) → InRange c
+  pub range-ok : (c : C) → InRange c → counting .Ok (nest c)
+  pub ok-range : (c : C) → counting .Ok (nest c) → InRange c
   pub fits : (f : List ℕ) → Lawful f → InRange (read f)
   pub lawful : (c : C) → InRange c → Lawful (shown c)
   pub read-shown : (c : C) → read (shown c) ≡ c
@@ -61,7 +61,7 @@ module _ {C : Type 0} (k : Layout C) where
   keeps : (f : List ℕ) → k .Lawful f → k .Lawful (face-step f)
   keeps f h =
       let c = k .read f in
-      k .lawful (k .tick c) (k .ok-fit (k .tick c) (subst (k .counting .Ok) (sym (k .ticks c)) (k .counting .keeps (k .nest c) (k .fit-ok c (k .fits f h)))))
+      k .lawful (k .tick c) (k .ok-range (k .tick c) (subst (k .counting .Ok) (sym (k .ticks c)) (k .counting .keeps (k .nest c) (k .range-ok c (k .fits f h)))))
 
   commutes : (f : List ℕ) → k .Lawful f → to (face-step f) ≡ k .counting .turn true (to f)
   unfolding to
@@ -76,7 +76,7 @@ module _ {C : Type 0} (k : Layout C) where
 
   ok : (f : List ℕ) → k .Lawful f → k .counting .Ok (to f)
   unfolding to
-  ok f h = k .fit-ok (k .read f) (k .fits f h)
+  ok f h = k .range-ok (k .read f) (k .fits f h)
 
   faces : Rolling (List ℕ)
   faces = through (k .counting) (k .Lawful) face-step to ok keeps commutes one

@@ -1,8 +1,8 @@
--- The ways to counter-into years: none, and a leap counter-into together a year of two digits.
+-- The ways to count years: none, and a leap count beside a year of two digits.
 use mathlib.Core.Path.{_≡_, refl, sym, ap, _∙_}
 use mathlib.Core.Bool.{Bool, true, false}
 use mathlib.Core.Logic.{_⊎_, inl, inr}
-use Prim.Native.Nat.{ℕ, _+_, _-_, _*_, _/_, _%_, _≤_, _<_, min}
+use Prim.Native.Nat.{ℕ, _+_, _-_, _*_, _/_, _%_, _≤_, _<_, min, zero-le}
 use native.Mathlib.Omega.{arith}
 use lib.Dec.{eqb}
 use Rattle.std.proofs.shelf.Tests.{eqb-true, eqb-false, cases-lt}
@@ -31,11 +31,10 @@ plain = record {
 }
 
 -- a counter from 0 moves on by one modulo its length
-pub on3 : (n : ℕ) → n ≤ 3 → after 0 3 true n ≡ (n + 1) % 4
-on3 n h = omega (arith, moves-after 0 3 n (omega arith) (omega arith, h) (eqb n 3) refl)
-
-pub on99 : (n : ℕ) → n ≤ 99 → after 0 99 true n ≡ (n + 1) % 100
-on99 n h = omega (arith, moves-after 0 99 n (omega arith) (omega arith, h) (eqb n 99) refl)
+pub on-from-0 : (last n : ℕ) → n ≤ last → after 0 last true n ≡ (n + 1) % (last + 1)
+on-from-0 last n h =
+    let a : (k : ℕ) → k - 0 ≡ k = λ k. omega arith in
+    sym (a (after 0 last true n)) ∙ moves-after 0 last n zero-le (zero-le, h) (eqb n last) refl ∙ ap (λ x. (x + 1) % (last + 1 - 0)) (a n) ∙ ap (λ x. (n + 1) % x) (a (last + 1))
 
 pub leap-days : (l : ℕ) → year-days (eqb l 0) + min l 1 ≡ 366
 leap-days l = go (eqb l 0) refl
@@ -44,7 +43,7 @@ leap-days l = go (eqb l 0) refl
     go true e = let z = eqb-true l 0 e in omega arith
     go false e = let ne = eqb-false l 0 e in omega (arith, ne)
 
--- the days of a leap year and the years after it, before the year of leap counter-into l
+-- the days of a leap year and the years after it, before the year of leap count l
 abbrev pub since-leap : ℕ → ℕ
 since-leap l = 365 * l + min l 1
 
@@ -116,7 +115,7 @@ year-same l y z hl hy hz f k =
     same : (u v : ℕ) → u % 100 / 4 ≡ v % 100 / 4 → u % 4 ≡ v % 4 → u % 100 ≡ v % 100
     same u v f k = omega arith
 
--- year 00 to 99 together the leap counter-into
+-- year 00 to 99 beside the leap count
 abbrev pub century : Years (ℕ × ℕ)
 century = record {
   Ok = λ p. (p .0 ≤ 3) × (p .1 ≤ 99);
@@ -128,13 +127,13 @@ century = record {
   round = 36525;
   whole = omega arith;
   rests = λ p. refl;
-  keeps = λ p h. let a = on3 (p .0) (h .0) in let b = on99 (p .1) (h .1) in (omega arith, omega arith);
+  keeps = λ p h. let a = on-from-0 3 (p .0) (h .0) in let b = on-from-0 99 (p .1) (h .1) in (omega arith, omega arith);
   ends = λ p h. let d = leap-days (p .0) in let b = fours-below (p .0) (p .1) in omega arith;
   moves = λ p h.
-      ap (λ x. since-leap x + 1461 * fours x (after 0 99 true (p .1))) (on3 (p .0) (h .0))
-      ∙ ap (λ x. since-leap ((p .0 + 1) % 4) + 1461 * fours ((p .0 + 1) % 4) x) (on99 (p .1) (h .1))
+      ap (λ x. since-leap x + 1461 * fours x (after 0 99 true (p .1))) (on-from-0 3 (p .0) (h .0))
+      ∙ ap (λ x. since-leap ((p .0 + 1) % 4) + 1461 * fours ((p .0 + 1) % 4) x) (on-from-0 99 (p .1) (h .1))
       ∙ year-start (p .0) (p .1) (year-days (eqb (p .0) 0)) (h .0) (h .1) (leap-days (p .0));
-  stays = λ p h. let a = on3 (p .0) (h .0) in let b = on99 (p .1) (h .1) in omega arith;
+  stays = λ p h. let a = on-from-0 3 (p .0) (h .0) in let b = on-from-0 99 (p .1) (h .1) in omega arith;
   same = λ p q hp hq k a b ha hb e.
       let d = leap-days (p .0) in
       let d' = leap-days (q .0) in

@@ -1,4 +1,5 @@
 pub mod Divider
+pub mod Divisors
 pub mod Numbers
 pub mod Waits
 pub mod Times

@@ -2,11 +2,26 @@
 ghost use mathlib.Core.Path.{_≡_};
 ghost use Prim.Native.Nat.{_+_, _%_, _≤_};
 ghost use Rattle.std.specs.Options.{Cases as BySome};
+ghost use Rattle.clock.specs.Divisors.{Greatest};
 ghost use Rattle.clock.specs.Divider.{Divides, passed, counted, stepped, groups, period};
 ghost use Rattle.clock.specs.Numbers.{numbers};
 ghost use Rattle.clock.specs.Waits.{IsPeriod, NoCycleLost};
 use crate::divider::Divider;
 use crate::divider::Waited;
+
+// By Euclid's algorithm.
+fn greatest_common_divisor(a: u32, b: u32) -> u32
+    ensures { λ r. ⌜ Greatest a b r ⌝ }
+{
+    let mut x = a;
+    let mut y = b;
+    while y != 0 {
+        let rest = x % y;
+        x = y;
+        y = rest;
+    }
+    x
+}
 
 // The fewest groups, at least one, whose passed cycles are a multiple of `k`.
 fn fewest_groups(m: u32, d: u32, k: u32) -> u64
@@ -14,11 +29,7 @@ fn fewest_groups(m: u32, d: u32, k: u32) -> u64
     ensures is { λ r. ⌜ r ≡ groups (record { m = m; d = d; k = k }) ⌝ }
     ensures few { λ r. ⌜ r ≤ k ⌝ }
 {
-    let mut groups: u64 = 1;
-    while groups * (m - d) as u64 % k as u64 != 0 {
-        groups += 1;
-    }
-    groups
+    (k / greatest_common_divisor(m - d, k)) as u64
 }
 
 impl Divider {

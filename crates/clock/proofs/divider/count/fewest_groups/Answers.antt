@@ -1,20 +1,14 @@
-use Prim.Native.Nat.{_-_, _<_}
-use native.Mathlib.Omega.{arith}
-use borrow.Author.Count.{below-more}
-use Rattle.clock.proofs.Periods.{groups-is, not-yet}
+use native.Mathlib.Nat.{div-le-self, dvd-refl, pos-of-dvd-of-pos}
+use Rattle.clock.proofs.Periods.{groups-are}
 use Rattle.clock.proofs.divider.count.fewest_groups.Needs as need
 
-more : (c : need.In-loop-groups) → c .loop-groups .groups < c .args .k
-more c = not-yet (c .args .m - c .args .d) (c .args .k) (c .loop-groups .groups) (c .loop-groups .inv .1) (c .loop-groups-test .taken)
-
-pub loop-groups-less : need.loop-groups-less
-loop-groups-less c = omega (arith, more c)
-
-pub loop-groups-again : need.loop-groups-again
-loop-groups-again c =
-    (omega arith, omega (arith, more c), below-more _ _ (c .loop-groups .inv .2) (λ _. c .loop-groups-test .taken))
+pub div-result : need.div-result
+div-result c =
+    let g = c .greatest-common-divisor .result in
+    pos-of-dvd-of-pos (c .greatest-common-divisor .ensures g .1 (dvd-refl g) .1) (c .pre .some-count)
 
 pub returns : need.returns
-returns c =
-    let i = c .loop-groups .inv in
-    record { is = groups-is _ (c .pre) (c .loop-groups .groups) (i .0) (c .loop-groups-test .left) (i .2); few = i .1 }
+returns c = record {
+  is = groups-are _ (c .pre) (c .greatest-common-divisor .result) (c .greatest-common-divisor .ensures);
+  few = div-le-self (c .args .k) (c .greatest-common-divisor .result);
+}
