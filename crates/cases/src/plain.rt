@@ -1,4 +1,4 @@
-// Both chips' counters written a second time, as their data sheets tell them, to be counted one step at a time.
+// Both chips' counters written a second time, as docs/COUNTING.md tells them, to be counted one step at a time.
 
 // A counter that goes from its last value to its first.
 #[derive(Clone, Copy)]

@@ -49,7 +49,9 @@ impl CaptionClock {
 // A clock just started, a tenth before midnight.
 fn before_midnight(date: Date, weekday: u8) -> CaptionClock
     requires { ⌜ (1 ≤ weekday) × (weekday ≤ 7) ⌝ }
-    ensures { λ r. ⌜ r .held ≡ 0 ⌝ }
+    ensures held { λ r. ⌜ r .held ≡ 0 ⌝ }
+    ensures time { λ r. ⌜ (r .counters .tenths ≡ 9) × (r .counters .seconds ≡ 59) × (r .counters .minutes ≡ 59) × (r .counters .hour .hours ≡ 23) ⌝ }
+    ensures date { λ r. ⌜ (r .counters .weekday ≡ weekday) × (r .counters .date ≡ date) ⌝ }
 {
     let hour = HourOfDay {
         hours: 23,

@@ -1,4 +1,5 @@
 use mathlib.Core.Path.{sym, subst}
+use native.Mathlib.Omega.{arith}
 use Rattle.clock.specs.Numbers.{numbers}
 use Rattle.clock.specs.Waits.{IsPeriod, NoCycleLost}
 use Rattle.clock.proofs.Periods.{is-period}
@@ -10,7 +11,7 @@ pub returns : need.returns
 returns c =
     let v = c .args .self .now in
     record {
-      value = v .repeats;
+      value = omega (arith, v .repeats);
       fewest = subst (IsPeriod (numbers v)) (sym (v .repeats)) (is-period (numbers v) (divides v));
       kept = subst (NoCycleLost (numbers v)) (sym (v .repeats)) (no-cycle-lost (numbers v) (divides v));
     }
