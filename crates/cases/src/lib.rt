@@ -1,5 +1,6 @@
 // Cases that are run and not proved: counters and dividers against others that are written a second time, and both chips by
 // tables of calls with the answers that they must give.
+#![tactic(auto)]
 #[cfg(test)]
 mod acts;
 #[cfg(test)]

@@ -1,4 +1,6 @@
 // How the clock chips count: cycles into steps, and steps into the faces they show.
+#![tactic(auto)]
+
 mod counter;
 pub mod date;
 mod digits;

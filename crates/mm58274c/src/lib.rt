@@ -1,4 +1,5 @@
 // The MM58274C, by whole bus accesses: registers, flags, timer and counters.
+#![tactic(auto)]
 mod bits;
 pub mod chip;
 mod counters;

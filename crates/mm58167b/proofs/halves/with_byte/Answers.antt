@@ -5,7 +5,7 @@ use Rattle.mm58167b.proofs.halves.with_byte.Goals as goal
 
 pub returns : goal.returns
 returns c =
-    let h = c.halves-of-halves.ensures in
+    let h = c.halves_of-halves.ensures in
     let v = c.args.value in
     let low = c.put-low.ensures.written ∙ (λ i. with_half (h.low i) (and_mask v 4 i) c.args.digits) in
     record {

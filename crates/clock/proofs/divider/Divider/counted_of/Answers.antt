@@ -4,4 +4,4 @@ use Rattle.clock.proofs.divider.Divider.counted_of.Goals as goal
 
 pub returns : goal.returns
 unfolding counted
-returns c = ap (λ x. x / c.args.self.now.k) c.passed-of.ensures
+returns c = ap (λ x. x / c.args.self.now.k) c.passed_of.ensures

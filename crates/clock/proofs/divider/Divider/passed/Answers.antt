@@ -4,5 +4,5 @@ use Rattle.clock.proofs.Passing.{passed_le}
 use Rattle.clock.proofs.Stands.{divides}
 use Rattle.clock.proofs.divider.Divider.passed.Goals as goal
 
-pub overflow-cast-result : goal.overflow-cast-result
-overflow-cast-result c = let v = c.args.self.now in omega (arith, passed_le (numbers v) (divides v) c.args.cycles)
+pub overflow_cast-result : goal.overflow_cast-result
+overflow_cast-result c = let v = c.args.self.now in omega (arith, passed_le (numbers v) (divides v) c.args.cycles)

@@ -5,13 +5,13 @@ use Rattle.clock.proofs.Passing.{passed_le}
 use Rattle.clock.proofs.Stands.{divides}
 use Rattle.clock.proofs.divider.Divider.passed_of.Goals as goal
 
-pub overflow-mul-result : goal.overflow-mul-result
+pub overflow_mul-result : goal.overflow_mul-result
 unfolding passed
-overflow-mul-result c = let v = c.args.self.now in omega (arith, passed_le (numbers v) (divides v) c.args.cycles)
+overflow_mul-result c = let v = c.args.self.now in omega (arith, passed_le (numbers v) (divides v) c.args.cycles)
 
-pub overflow-add-result : goal.overflow-add-result
+pub overflow_add-result : goal.overflow_add-result
 unfolding passed
-overflow-add-result c = let v = c.args.self.now in omega (arith, passed_le (numbers v) (divides v) c.args.cycles)
+overflow_add-result c = let v = c.args.self.now in omega (arith, passed_le (numbers v) (divides v) c.args.cycles)
 
 pub returns : goal.returns
 unfolding passed

@@ -25,7 +25,7 @@ returns c =
       leap = d.leap;
       year = d.year;
     } in
-    let mid = c.since-midnight.ensures.0 in
+    let mid = c.since_midnight.ensures.0 in
     counted c.args.steps c.turned-tenths.result.1 c.turned-seconds.result.1 c.turned-minutes.result.1 c.turned-hour.result.1 (counters s) e (running s)
     record {
       tenths = c.turned-tenths.ensures.0;

@@ -5,28 +5,28 @@ use Rattle.clock.specs.declared.mm58274c.Running.{Running}
 use Rattle.clock.proofs.Start274.{no_date, started}
 use Rattle.clock.proofs.mm58274c.Running.from_face.Goals as goal
 
-pub returns-in-err-date : goal.returns-in-err-date
-returns-in-err-date c = rw c.from-residual-in-err-date.ensures (no_date c.args.digits.now c.from-register-setting.result.leap c.from-register-setting.ensures.leap c.in-err-date.ensures)
+pub returns-in_err-date : goal.returns-in_err-date
+returns-in_err-date c = rw c.from_residual-in_err-date.ensures (no_date c.args.digits.now c.from_register-setting.result.leap c.from_register-setting.ensures.leap c.in_err-date.ensures)
 
 pub returns : goal.returns
 unfolding face
 returns c =
     let f = c.args.digits.now in
     let len : length c.args.digits.now ≡ 15 = omega arith in
-    let t = c.in-ok-tenths.ensures in
-    let s = c.in-ok-seconds.ensures in
-    let m = c.in-ok-minutes.ensures in
-    let h = c.in-ok-hour.ensures in
-    let e = c.in-ok-date.ensures in
-    let w = c.in-ok-weekday.ensures in
-    let g = c.from-register-setting.ensures in
+    let t = c.in_ok-tenths.ensures in
+    let s = c.in_ok-seconds.ensures in
+    let m = c.in_ok-minutes.ensures in
+    let h = c.in_ok-hour.ensures in
+    let e = c.in_ok-date.ensures in
+    let w = c.in_ok-weekday.ensures in
+    let g = c.from_register-setting.ensures in
     let x : Running = record {
-      tenths = c.in-ok-tenths.tenths;
-      seconds = c.in-ok-seconds.seconds;
-      minutes = c.in-ok-minutes.minutes;
-      hour = c.in-ok-hour.hour;
-      weekday = c.in-ok-weekday.weekday;
-      date = c.in-ok-date.date;
+      tenths = c.in_ok-tenths.tenths;
+      seconds = c.in_ok-seconds.seconds;
+      minutes = c.in_ok-minutes.minutes;
+      hour = c.in_ok-hour.hour;
+      weekday = c.in_ok-weekday.weekday;
+      date = c.in_ok-date.date;
       ranges = (omega arith, omega arith, omega arith, omega arith, omega arith);
     } in
     started f x len record {

@@ -6,5 +6,5 @@ pub returns : goal.returns
 returns c = record {
   leap = refl;
   pm = ap (λ x. eqb x 1) (and1 (c.args.register / 2));
-  mode = c.hour-mode.ensures ∙ ap (λ x. eqb x 1) (and1 c.args.register);
+  mode = c.hour_mode.ensures ∙ ap (λ x. eqb x 1) (and1 c.args.register);
 }

@@ -2,7 +2,7 @@ use Rattle.std.proofs.Common.{◌∙◌, arith, length-set}
 use Rattle.chips.proofs.Small.{small_set}
 use Rattle.mm58274c.proofs.counters.Counters.stopped.Goals as goal
 
-pub invariant-of-result : goal.invariant-of-result
-invariant-of-result c =
+pub invariant_of-result : goal.invariant_of-result
+invariant_of-result c =
     let d = c.digits-digits in
     (length-set d.result 0 0 ∙ d.ensures.long, (small_set d.result 0 0 d.ensures.small (omega arith), tt))

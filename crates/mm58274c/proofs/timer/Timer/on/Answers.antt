@@ -51,8 +51,8 @@ returns-in-Again-Steps-2 c =
     let w = c.in-Again-Steps in
     let k : Timed c.args.register (Again w.left) = subst (Timed c.args.register) w.is-0 c.requires in
     let some : 1 ≤ w.left = k.0 refl in
-    let d = c.delay-of-delay.ensures.0 in
-    let l : (w.n - w.left) % c.delay-of-delay.result < c.delay-of-delay.result = mod-lt (w.n - w.left) (omega arith) in
+    let d = c.delay_of-delay.ensures.0 in
+    let l : (w.n - w.left) % c.delay_of-delay.result < c.delay_of-delay.result = mod-lt (w.n - w.left) (omega arith) in
     record {
       after =
           ap (λ x. (Again (x - (w.n - w.left) % x), true)) d
