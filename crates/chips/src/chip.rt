@@ -74,7 +74,7 @@ pub trait Chip {
 
 // The numbers that a kind of chip fixes.
 pub fn numbers_of<C: Chip>() -> Numbers
-    ensures { numbers result ≡ fixed_by kind }
+    ensures { numbers result ≡ fixed_by C.kind }
 {
     let constants = C::NUMBERS;
     constants.numbers()

@@ -4,7 +4,7 @@ ghost use Rattle.chips.specs.Behaviour.{does_by};
 ghost use Rattle.mm58167b.specs.Does.{behaviour, kind as kind_167};
 ghost use Rattle.mm58167b.specs.View.{registers, state as state_167};
 ghost use Rattle.mm58167b.specs.Laws.{kind_laws, sound, keeps};
-ghost use Rattle.chips.proofs.Behaving.{rules, determined};
+ghost use Rattle.chips.proofs.Behaving.{rules as keep_rules, determined};
 ghost use Rattle.mm58167b.specs.Told.{registers_tell};
 ghost use Rattle.std.proofs.Common.{rules, arith};
 
@@ -50,7 +50,7 @@ impl Chip for Mm58167b {
 
     ghost sound_at_every_moment = { λ x. sound x };
 
-    ghost keeps_the_chip_rules = { λ x y a r h. rules behaviour registers keeps x y a r h };
+    ghost keeps_the_chip_rules = { λ x y a r h. keep_rules behaviour registers keeps x y a r h };
 
     ghost has_one_answer = { λ x y z a r q h k. determined behaviour registers registers_tell x y z a r q h k };
 
