@@ -1,5 +1,6 @@
 // The MM58274C, by whole bus accesses: registers, flags, timer and counters.
 #![tactic(auto)]
+
 mod bits;
 pub mod chip;
 mod counters;

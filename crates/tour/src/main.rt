@@ -1,5 +1,6 @@
 // Follows a caption machine's clock over midnight, over a day and over a round, and tells what each wait counted and what the clock showed.
 #![tactic(auto)]
+
 ghost use Rattle.std.specs.Prelude.{◌≡◌, ◌+◌, ◌%◌, ◌≤◌};
 ghost use Rattle.clock.specs.Divider.{period, stepped, tenths};
 ghost use Rattle.clock.specs.Mm58274c.{step};

@@ -9,7 +9,7 @@ returns c =
     let s = c.stored in
     let t = c.low_bits-tens in
     let v : c.low_bits-tens.result ≡ cut (active_bits (bit 0 c.args.value) 6) (get_or c.args.digits 6 0) =
-    t.ensures.0 ∙ ap (λ b. cut b (get_or d 6 0)) (c.active_bits.ensures.0 ∙ ap (λ m. active_bits m 6) c.has_bit.ensures) in
+    t.ensures.0 ∙ ap (λ b. cut b (get_or d 6 0)) (c.active-bits.ensures.0 ∙ ap (λ m. active_bits m 6) c.has_bit.ensures) in
     record {
       written = ap (λ x. set (set d 14 x) 6 t.result) s.ensures.0 ∙ ap (set (set d 14 _) 6) v;
       long = length-set (set d 14 s.result) 6 t.result ∙ length-set d 14 s.result ∙ c.requires.long;
