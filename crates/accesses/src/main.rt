@@ -1,5 +1,6 @@
 // Sets, starts and reads both chips as a driver does, access by access, and tells what each access came to.
 #![tactic(auto)]
+
 use chips::chip::{Chip, numbers_of};
 use mm58167b::chip::Mm58167b;
 use mm58274c::chip::Mm58274c;
