@@ -1,6 +1,7 @@
 // Cases that are run and not proved: counters and dividers against others that are written a second time, and both chips by
 // tables of calls with the answers that they must give.
 #![tactic(auto)]
+
 #[cfg(test)]
 mod acts;
 #[cfg(test)]

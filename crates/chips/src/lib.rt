@@ -1,5 +1,6 @@
 // What every clock chip on the bench keeps, whichever kind it is: its refusals, what it may be asked, and the chip rules.
 #![tactic(auto)]
+
 pub mod ask;
 pub mod chip;
 pub mod numbers;

@@ -1,5 +1,5 @@
 -- What an MM58274C holds, and what a step and an access make of it.
-use Rattle.std.specs.Prelude.{◌≡◌, ℕ, ◌+◌, ◌-◌, ◌*◌, ◌%◌, ◌≤◌, Bool, true, false, cond, not, ◌&&◌, ◌||◌, List, [], ◌∷◌, ◌++◌, set, ◌==◌, ◌≢◌, slice_index, slice_set}
+use Rattle.std.specs.Prelude.{◌≡◌, ℕ, ◌+◌, ◌-◌, ◌*◌, ◌%◌, ◌≤◌, Bool, true, false, cond, not, ◌&&◌, ◌||◌, List, [], ◌∷◌, ◌++◌, ◌==◌, ◌≢◌, slice_index, slice_set}
 use Rattle.clock.specs.Divider.{period, stepped, tenths}
 use Rattle.clock.specs.Mm58274c.{Lawful, step}
 use Rattle.clock.specs.Times.{times}
