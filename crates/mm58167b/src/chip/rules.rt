@@ -6,7 +6,7 @@ ghost use Rattle.mm58167b.specs.View.{registers, state as state_167};
 ghost use Rattle.mm58167b.specs.Laws.{kind_laws, sound, keeps};
 ghost use Rattle.chips.proofs.Behaving.{rules as keep_rules, determined};
 ghost use Rattle.mm58167b.specs.Told.{registers_tell};
-ghost use Rattle.std.proofs.Common.{rules, arith};
+ghost use Rattle.std.proofs.Common.{rules};
 
 use crate::chip::access::admitted;
 use crate::chip::{Mm58167b, Mm58167bNumbers};
@@ -44,7 +44,7 @@ impl Chip for Mm58167b {
 
     ghost does = { does_by behaviour registers };
 
-    ghost constants_are_the_kinds = { first_of (Prim.search rules, Prim.grind (arith, Self.row.coded.inj)) };
+    ghost constants_are_the_kinds = { Prim.search rules };
 
     ghost kind_comes_round = { kind_laws };
 

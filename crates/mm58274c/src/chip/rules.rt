@@ -6,7 +6,7 @@ ghost use Rattle.mm58274c.specs.View.{registers, state as state_274};
 ghost use Rattle.mm58274c.specs.Laws.{kind_laws, sound, keeps};
 ghost use Rattle.chips.proofs.Behaving.{rules as keep_rules, determined};
 ghost use Rattle.mm58274c.specs.Told.{registers_tell};
-ghost use Rattle.std.proofs.Common.{rules, arith};
+ghost use Rattle.std.proofs.Common.{rules};
 
 use crate::chip::write::admitted;
 use crate::chip::{Mm58274c, Mm58274cNumbers};
@@ -44,7 +44,7 @@ impl Chip for Mm58274c {
 
     ghost does = { does_by behaviour registers };
 
-    ghost constants_are_the_kinds = { first_of (Prim.search rules, Prim.grind (arith, Self.row.coded.inj)) };
+    ghost constants_are_the_kinds = { Prim.search rules };
 
     ghost kind_comes_round = { kind_laws };
 
