@@ -1,7 +1,8 @@
 // The chip rules, as a trait.
 ghost use Rattle.std.specs.Prelude.{◌≡◌};
-ghost use Rattle.chips.specs.Kind.{Fixed, Kind, KindLaws, Sound, State, fixed_by, numbers};
+ghost use Rattle.chips.specs.Kind.{Kind, KindLaws, Sound, State, fixed_by, numbers};
 ghost use Rattle.chips.specs.Rules.{Reply, Rule};
+ghost use Rattle.chips.specs.declared.numbers.Numbers.{Numbers as FixedNumbers};
 ghost use Rattle.chips.specs.declared.ask.Ask.{Ask};
 ghost use Rattle.chips.specs.declared.ask.Ask.TheVariants.{Wait, Arm, Digit, Settle, Read, Take, Write};
 
@@ -12,19 +13,11 @@ use crate::refusal::Refusal;
 // The cycles that a chip may be waited for in all.
 pub const OLDEST: u64 = 1 << 60;
 
-// The numbers of one kind. An implementing type has one value, so that generic code knows a constant of it.
-pub trait KindNumbers {
-    ghost fixes: { Fixed };
-
-    fn numbers(&self) -> Numbers
-        ensures { numbers result ≡ fixes };
-}
-
 pub trait Chip {
-    type Constants: KindNumbers + Copy;
-
     // What the kind fixes: columns, round and divider numbers.
-    const NUMBERS: Self::Constants;
+    const NUMBERS: Numbers;
+
+    ghost NUMBERS: { FixedNumbers };
 
     ghost kind: { Kind };
 
@@ -59,7 +52,7 @@ pub trait Chip {
     fn write(&mut self, address: u64, value: u64) -> Result<(), Refusal>
         ensures { does self.old (Write address value) result self.new };
 
-    ghost constants_are_the_kinds: { Self.Constants.KindNumbers.fixes ≡ fixed_by kind };
+    ghost constants_are_the_kinds: { numbers NUMBERS ≡ fixed_by kind };
 
     ghost kind_comes_round: { KindLaws kind };
 
@@ -76,6 +69,5 @@ pub trait Chip {
 pub fn numbers_of<C: Chip>() -> Numbers
     ensures { numbers result ≡ fixed_by C.kind }
 {
-    let constants = C::NUMBERS;
-    constants.numbers()
+    C::NUMBERS
 }

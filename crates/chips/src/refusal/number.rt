@@ -1,14 +1,15 @@
 // Refusals by number.
 ghost use Rattle.std.specs.Prelude.{◌≡◌};
-ghost use Rattle.chips.specs.Refusals.{number};
 
 use crate::refusal::Refusal;
 
-impl Refusal {
-    pub fn number(self) -> u8
-        ensures { result ≡ number self }
-    {
-        match self {
+impl From<Refusal> for u8 {
+    ghost use Rattle.chips.specs.Refusals.{number};
+
+    ghost from_gives = { λ refusal n. n ≡ number refusal };
+
+    fn from(refusal: Refusal) -> u8 {
+        match refusal {
             Refusal::NoAddress => 2,
             Refusal::NotWritable => 3,
             Refusal::TooWide => 4,
