@@ -2,7 +2,6 @@ pub mod Passing
 pub mod Periods
 pub mod Waiting
 pub mod KnownDividers
-pub mod Stands
 pub mod Modular
 pub mod Masks
 pub mod Rolling
@@ -20,6 +19,6 @@ pub mod Count167
 pub mod Count274
 pub mod Start274
 pub mod Start167
+pub mod Cases
 pub mod Shown167
 pub mod Shown274
-pub mod Cases

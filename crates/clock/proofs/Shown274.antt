@@ -1,8 +1,6 @@
 -- What the MM58274C's counters show is lawful, and tells them.
-use Rattle.std.proofs.Common.{◌≡◌, ℕ, ◌<◌, ◌≤◌, ◌⊎◌, List, length, get_or, sym, refl, ap, ◌∙◌, inl, inr, arith}
+use Rattle.std.proofs.Common.{◌≡◌, ℕ, sym, refl, ap, ◌∙◌, arith}
 use denote.Struct.Record.{values_one}
-use Rattle.std.proofs.lemmas.List.{get_or_past}
-use Rattle.std.proofs.lemmas.Bool.{cases_lt}
 use Rattle.clock.specs.Mm58274c.{Lawful, read}
 use Rattle.clock.specs.Modes.{is24}
 use Rattle.clock.specs.Registers274.{counters, face}
@@ -21,24 +19,6 @@ use Rattle.clock.proofs.Start274 as start
 pub face_lawful : (x : Running) → Lawful (face x)
 unfolding face
 face_lawful x = lawful_shown (counters x) (start.running x)
-
-pub lawful_long : (f : List ℕ) → Lawful f → length f ≡ 15
-lawful_long f h = h.columns
-
--- a digit of a lawful face fits four bits
-pub lawful_digits : (f : List ℕ) → Lawful f → (k : ℕ) → get_or f k 0 ≤ 15
-lawful_digits f h k = go (cases_lt k 14)
-  where
-    go : (k < 14) ⊎ (14 ≤ k) → get_or f k 0 ≤ 15
-    go (inl l) = omega (arith, h.decimal k l)
-    go (inr l) = past (cases_lt k 15)
-      where
-        past : (k < 15) ⊎ (15 ≤ k) → get_or f k 0 ≤ 15
-        past (inl m) =
-            let e : k ≡ 14 = omega arith in
-            let s = h.in_range.leap in
-            rw e (omega arith)
-        past (inr m) = omega (arith, h.columns, get_or_past f k 0 (omega (arith, h.columns)))
 
 -- ---- counters that show one face are the same
 

@@ -13,3 +13,4 @@ pub mod Registers167
 pub mod Registers274
 pub mod Start
 pub mod Cases
+pub mod Widths

@@ -1,9 +1,8 @@
 // What turns cycles into steps. A cycle is one period of the crystal, a step one count of the chip's lowest counter.
-ghost use Rattle.std.specs.Prelude.{◌≡◌, ◌<◌, ◌≤◌};
-ghost use Rattle.clock.specs.Divider.{period as period_of};
+
+use std::marker::Model;
 
 mod count;
-mod kinds;
 
 // The cycles that the crystal makes in a second.
 pub const SECOND: u64 = 32_768;
@@ -12,16 +11,30 @@ pub const SECOND: u64 = 32_768;
 #[derive(Clone, Copy)]
 pub struct Divider {
     // the cycles of a group
-    m: u32,
+    pub(crate) m: u32,
     // the cycles at the end of a group that do not count
-    d: u32,
+    pub(crate) d: u32,
     // the passed cycles of a step
-    k: u32,
+    pub(crate) k: u32,
     // the cycles after which it stands as it stood
-    period: u64,
-    ghost passes: { d < m },
-    ghost counts: { 1 ≤ k },
-    ghost repeats: { period ≡ period_of (record { m = m; d = d; k = k }) },
+    pub(crate) period: u64,
+}
+
+// In clauses a divider is its three numbers.
+impl Model for Divider {
+    ghost use Rattle.clock.specs.Divider.{Divider as Numbers};
+
+    ghost Value = { Numbers };
+
+    ghost use Rattle.clock.specs.Numbers.{numbers, IsDivider, fields, fields_told};
+
+    ghost view = { numbers };
+
+    ghost invariant = { IsDivider };
+
+    ghost inverse = { fields };
+
+    ghost inverse_ok = { fields_told };
 }
 
 // What a wait comes to: the steps counted in it, and the cycles held after it.

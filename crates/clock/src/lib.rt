@@ -1,6 +1,7 @@
 // How the clock chips count: cycles into steps, and steps into the faces they show.
 #![tactic(auto)]
 
+pub mod calendar;
 mod counter;
 pub mod date;
 mod digits;
@@ -12,4 +13,5 @@ pub mod mode;
 mod month;
 pub mod month_day;
 mod setting;
+pub mod ticking;
 pub mod worked;

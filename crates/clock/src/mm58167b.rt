@@ -3,8 +3,7 @@ ghost use Rattle.std.specs.Prelude.{◌≤◌};
 
 use crate::month_day::MonthDay;
 
-mod advance;
-mod kind;
+mod calendar;
 mod start;
 
 #[derive(Clone, Copy)]

@@ -4,8 +4,7 @@ ghost use Rattle.std.specs.Prelude.{◌≤◌};
 use crate::date::Date;
 use crate::hour::HourOfDay;
 
-mod advance;
-mod kind;
+mod calendar;
 mod start;
 
 #[derive(Clone, Copy)]

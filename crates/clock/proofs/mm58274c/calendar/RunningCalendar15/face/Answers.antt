@@ -1,0 +1,11 @@
+use Rattle.std.proofs.Common.{rules}
+use Rattle.clock.specs.Registers274.{counters, face}
+use Rattle.clock.proofs.Face274.{lawful_shown}
+use Rattle.clock.proofs.Start274.{running}
+use Rattle.clock.proofs.mm58274c.calendar.RunningCalendar15.face.Goals as goal
+
+pub returns : goal.returns
+unfolding face
+returns c =
+    let s = c.args.self.now in
+    record { shows = search rules; lawful = rw c.register.ensures (lawful_shown (counters s) (running s)) }

@@ -1,0 +1,44 @@
+use Rattle.std.proofs.Common.{◌≡◌, length, ap, ◌∙◌, arith}
+use Rattle.clock.specs.Modes.{is24}
+use Rattle.clock.specs.Registers274.{face}
+use Rattle.clock.specs.declared.mm58274c.Running.{Running}
+use Rattle.clock.proofs.Start274.{no_date, started}
+use Rattle.clock.proofs.mm58274c.calendar.RunningCalendar15.from_face.Goals as goal
+
+pub returns-in_err-date : goal.returns-in_err-date
+returns-in_err-date c = rw c.from_residual-in_err-date.ensures (no_date c.args.digits.now c.from_register-setting.result.leap c.from_register-setting.ensures.leap c.in_err-date.ensures)
+
+pub returns : goal.returns
+unfolding face
+returns c =
+    let f = c.args.digits.now in
+    let len : length c.args.digits.now ≡ 15 = omega arith in
+    let t = c.in_ok-tenths.ensures in
+    let s = c.in_ok-seconds.ensures in
+    let m = c.in_ok-minutes.ensures in
+    let h = c.in_ok-hour.ensures in
+    let e = c.in_ok-date.ensures in
+    let w = c.in_ok-weekday.ensures in
+    let g = c.from_register-setting.ensures in
+    let x : Running = record {
+      tenths = c.in_ok-tenths.tenths;
+      seconds = c.in_ok-seconds.seconds;
+      minutes = c.in_ok-minutes.minutes;
+      hour = c.in_ok-hour.hour;
+      weekday = c.in_ok-weekday.weekday;
+      date = c.in_ok-date.date;
+      ranges = (omega arith, omega arith, omega arith, omega arith, omega arith);
+    } in
+    started f x len record {
+      tenths = (t.0, t.1.0);
+      seconds = (s.0, s.1.0, s.1.1);
+      minutes = (m.0, m.1.0, m.1.1);
+      hours = (h.0, h.3.0, h.3.1);
+      pm = h.1 ∙ g.pm;
+      mode = ap is24 h.2 ∙ g.mode;
+      day = (e.0, e.4.0.0, e.4.0.1);
+      month = (e.1, e.4.1.0, e.4.1.1);
+      year = (e.2, e.4.2.0, e.4.2.1);
+      leap = e.3 ∙ g.leap;
+      weekday = (w.0, w.1.0);
+    }
