@@ -1,6 +1,6 @@
 -- Day, month and year roll over, over any way to count years.
-use Rattle.std.proofs.Common.{◌≡◌, ℕ, zero, suc, ◌+◌, ◌-◌, ◌%◌, ◌<◌, ◌≤◌, Bool, true, false, cond, ◌&&◌, ◌||◌, eqb, ◌⊎◌, sym, refl, ap, ◌∙◌, subst, inl, inr, mod-eq_of_lt, arith}
-use Rattle.std.proofs.lemmas.Bool.{eqb-true, eqb-false, cases_lt, cases_order}
+use Rattle.std.proofs.Common.{◌≡◌, ℕ, zero, suc, ◌+◌, ◌-◌, ◌%◌, ◌<◌, ◌≤◌, Bool, true, false, cond, ◌&&◌, ◌||◌, eqb, ◌⊎◌, sym, refl, ap, ◌∙◌, subst, inl, inr, mod-eq_of_lt, arith, lit≤}
+use Rattle.std.proofs.lemmas.Bool.{eqb-true, eqb-false, cases_order}
 use Rattle.clock.specs.Counter.{after, days_of}
 use Rattle.clock.specs.Parts.{days_before, year_days, Dated, day_of_year}
 use Rattle.clock.proofs.Rolling.{Rolling}
@@ -38,17 +38,13 @@ day_of_year_ends leap m d h =
 pub day_of_year_below : (leap : Bool) (m d : ℕ) → Dated leap m d → day_of_year leap m d < year_days leap
 day_of_year_below leap m d h = let a = day_of_year_ends leap m d h in omega arith
 
--- a month that ends before the day is not the last one
-pub not_last : (leap : Bool) (m left : ℕ) → 1 ≤ m → days_of m leap ≤ left → days_before (m - 1) leap + left < year_days leap → m < 12
-not_last leap m left a l u = go (cases_lt m 12)
-  where
-    go : (m < 12) ⊎ (12 ≤ m) → m < 12
-    go (inl h) = h
-    go (inr h) =
-        let b = before_mono leap 12 m h in
-        let n = next_month leap m a in
-        let y = before_year leap in
-        absurd (omega arith)
+-- what a place of the year has past the first eleven months is within December
+pub december : (leap : Bool) (m left : ℕ) → m ≡ 12 → days_before (m - 1) leap + left < year_days leap → left < 31
+december leap m left e h =
+    let f = ap (λ x. days_before (x - 1) leap) e in
+    let n = next_month leap 12 (lit≤ tt) in
+    let y = before_year leap in
+    omega arith
 
 month_apart : (leap : Bool) (m d n e : ℕ) → Dated leap m d → Dated leap n e → day_of_year leap m d ≡ day_of_year leap n e → m < n → ⊥
 month_apart leap m d n e h k p l =

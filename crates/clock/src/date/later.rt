@@ -5,7 +5,7 @@ ghost use Rattle.clock.specs.Parts.{next_date};
 ghost use Rattle.clock.specs.Registers274.{dated};
 
 use crate::date::Date;
-use crate::month::{day_of_year, month_and_day};
+use crate::month::YearDay;
 
 // a leap year and the three years after it
 const FOUR_YEARS: u64 = 1461;
@@ -25,16 +25,20 @@ impl Date {
     pub(crate) fn later(self, days: u64) -> Date
         ensures { dated result ≡ times days next_date (dated self) }
     {
-        let start = since_leap(self.leap as u64)
-            + day_of_year(self.month, self.day, self.leap == 0) as u64;
+        let day = YearDay {
+            month: self.month,
+            day: self.day,
+            leap: self.leap == 0,
+        };
+        let start = since_leap(self.leap as u64) + day.place() as u64;
         let place = start + days % HUNDRED_YEARS;
         let left = place % FOUR_YEARS;
         let leap = left.saturating_sub(1) / 365;
-        let (month, day) = month_and_day((left - since_leap(leap)) as u16, leap == 0);
+        let on = YearDay::at((left - since_leap(leap)) as u16, leap == 0);
         let leap_year = (self.year + 100 - self.leap) as u64;
         Date {
-            day,
-            month,
+            day: on.day,
+            month: on.month,
             leap: leap as u8,
             year: ((leap_year + 4 * (place / FOUR_YEARS) + leap) % 100) as u8,
         }

@@ -49,7 +49,7 @@ impl Calendar<15> for Running {
         if digits.len() != 15 {
             return None;
         }
-        let setting = Setting::from_register(digits[14]);
+        let setting = Setting::from(digits[14]);
         let seconds = Digits(digits[1], digits[2]).between(0, 59)?;
         let minutes = Digits(digits[3], digits[4]).between(0, 59)?;
         let hour = hour_shown(Digits(digits[5], digits[6]), setting.pm, setting.mode)?;
@@ -89,7 +89,7 @@ impl Calendar<15> for Running {
             self.date.year % 10,
             self.date.year / 10,
             self.weekday,
-            setting.register(),
+            u8::from(setting),
         ]
     }
 

@@ -4,7 +4,7 @@ ghost use Rattle.clock.specs.Times.{times};
 ghost use Rattle.clock.specs.Parts.{next_month_day};
 ghost use Rattle.clock.specs.Registers167.{dated};
 
-use crate::month::{day_of_year, month_and_day};
+use crate::month::YearDay;
 use crate::month_day::MonthDay;
 
 const YEAR: u64 = 365;
@@ -14,8 +14,16 @@ impl MonthDay {
     pub(crate) fn later(self, days: u64) -> MonthDay
         ensures { dated result ≡ times days next_month_day (dated self) }
     {
-        let place = day_of_year(self.month, self.day, false) as u64 + days % YEAR;
-        let (month, day) = month_and_day((place % YEAR) as u16, false);
-        MonthDay { day, month }
+        let day = YearDay {
+            month: self.month,
+            day: self.day,
+            leap: false,
+        };
+        let place = day.place() as u64 + days % YEAR;
+        let on = YearDay::at((place % YEAR) as u16, false);
+        MonthDay {
+            day: on.day,
+            month: on.month,
+        }
     }
 }

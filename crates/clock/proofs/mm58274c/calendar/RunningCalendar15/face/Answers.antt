@@ -1,4 +1,4 @@
-use Rattle.std.proofs.Common.{rules}
+use Rattle.std.proofs.Common.{◌≡◌, ◌%◌, rules, arith}
 use Rattle.clock.specs.Registers274.{counters, face}
 use Rattle.clock.proofs.Face274.{lawful_shown}
 use Rattle.clock.proofs.Start274.{running}
@@ -8,4 +8,6 @@ pub returns : goal.returns
 unfolding face
 returns c =
     let s = c.args.self.now in
-    record { shows = search rules; lawful = rw c.register.ensures (lawful_shown (counters s) (running s)) }
+    let k = s.date.years.0 in
+    let leap : s.date.leap % 4 ≡ s.date.leap = omega arith in
+    rw (c.from.ensures, leap) (record { shows = search rules; lawful = lawful_shown (counters s) (running s) })

@@ -6,7 +6,7 @@ use Rattle.clock.proofs.Start274.{no_date, started}
 use Rattle.clock.proofs.mm58274c.calendar.RunningCalendar15.from_face.Goals as goal
 
 pub returns-in_err-date : goal.returns-in_err-date
-returns-in_err-date c = rw c.from_residual-in_err-date.ensures (no_date c.args.digits.now c.from_register-setting.result.leap c.from_register-setting.ensures.leap c.in_err-date.ensures)
+returns-in_err-date c = rw c.from_residual-in_err-date.ensures (no_date c.args.digits.now c.from-setting.result.leap c.from-setting.ensures.0 c.in_err-date.ensures)
 
 pub returns : goal.returns
 unfolding face
@@ -19,7 +19,7 @@ returns c =
     let h = c.in_ok-hour.ensures in
     let e = c.in_ok-date.ensures in
     let w = c.in_ok-weekday.ensures in
-    let g = c.from_register-setting.ensures in
+    let g = c.from-setting.ensures in
     let x : Running = record {
       tenths = c.in_ok-tenths.tenths;
       seconds = c.in_ok-seconds.seconds;
@@ -34,11 +34,11 @@ returns c =
       seconds = (s.0, s.1.0, s.1.1);
       minutes = (m.0, m.1.0, m.1.1);
       hours = (h.0, h.3.0, h.3.1);
-      pm = h.1 ∙ g.pm;
-      mode = ap is24 h.2 ∙ g.mode;
+      pm = h.1 ∙ g.1;
+      mode = ap is24 h.2 ∙ g.2;
       day = (e.0, e.4.0.0, e.4.0.1);
       month = (e.1, e.4.1.0, e.4.1.1);
       year = (e.2, e.4.2.0, e.4.2.1);
-      leap = e.3 ∙ g.leap;
+      leap = e.3 ∙ g.0;
       weekday = (w.0, w.1.0);
     }
