@@ -22,3 +22,4 @@ pub mod Start167
 pub mod Cases
 pub mod Shown167
 pub mod Shown274
+pub mod Told

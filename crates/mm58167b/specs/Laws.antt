@@ -4,8 +4,8 @@ use Rattle.std.proofs.Common.{sym, ap, subst, arith}
 use Rattle.std.proofs.lemmas.Bool.{cond_both}
 use Rattle.clock.specs.Registers167.{face}
 use Rattle.clock.proofs.Face167.{round_law}
-use Rattle.clock.proofs.KnownDividers.{milliseconds_period}
-use Rattle.clock.proofs.Shown167.{face_lawful, lawful_digits, lawful_long}
+use Rattle.clock.proofs.Shown167.{face_lawful}
+use Rattle.clock.specs.Widths.{columns_167, four_bits_167}
 use Rattle.chips.specs.declared.ask.Ask.TheVariants.{Wait}
 use Rattle.chips.specs.Kind.{KindLaws, Sound, one_more}
 use Rattle.chips.specs.Rules.{Waits, OneCall, Stays, Writes}
@@ -26,14 +26,14 @@ kind_laws = record {
 
 pub sound : (x : Mm58167b) → Sound kind (state x)
 sound x =
-    let law = face_lawful x.counters in
+    let law = face_lawful x.clock.counters in
     record {
-      wide = lawful_long _ law;
-      digits = lawful_digits (face x.counters) law;
+      wide = columns_167 _ law;
+      digits = four_bits_167 (face x.clock.counters) law;
       lawful_while_running = λ _. law;
-      held_below_the_period = omega (arith, milliseconds_period, x.below);
+      held_below_the_period = omega (arith, x.clock.below);
       none_held_while_stopped = λ e. absurd (let z : ◌≡◌ {A = ℕ} 0 1 = cc in omega arith);
-      age_within_the_limit = x.young;
+      age_within_the_limit = x.age.young;
       calls_of_32_bits = x.few;
     }
 

@@ -5,3 +5,4 @@ pub mod Does
 pub mod Laws
 pub mod Waiting
 pub mod Told
+pub mod Address

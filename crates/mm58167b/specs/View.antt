@@ -11,13 +11,13 @@ use Rattle.mm58167b.specs.Registers.{Registers}
 
 abbrev pub registers : Mm58167b → Registers
 registers x = record {
-  digits = face x.counters;
-  held = x.held;
-  ram = x.ram;
+  digits = face x.clock.counters;
+  held = x.clock.held;
+  ram = x.ram.columns;
   status = x.status;
   seen = x.seen;
   armed = x.armed;
-  age = x.age;
+  age = x.age.cycles;
   calls = x.calls;
 }
 

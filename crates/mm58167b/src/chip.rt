@@ -1,8 +1,10 @@
 // An MM58167B. It always runs.
-ghost use Rattle.std.specs.Prelude.{◌≡◌, ℕ, ◌^◌, ◌<◌, ◌≤◌, true, length, slice_index};
+ghost use Rattle.std.specs.Prelude.{◌≡◌, ◌^◌, ◌<◌, true};
 
-use chips::numbers::Numbers;
+use chips::age::Age;
+use chips::digits::Digits;
 use clock::mm58167b::Running;
+use clock::ticking::Ticking;
 
 mod access;
 mod made;
@@ -10,32 +12,16 @@ mod rules;
 
 #[derive(Clone, Copy)]
 pub struct Mm58167b {
-    // they hold a lawful face at every moment
-    counters: Running,
-    // the cycles that the divider holds
-    held: u64,
-    // fourteen digits, in the counters' layout
-    ram: [u8; 14],
+    clock: Ticking<Running, 14>,
+    // in the counters' layout
+    ram: Digits<14>,
     // the rollover status
     status: bool,
     // a counter has been read since the status was
     seen: bool,
     armed: bool,
-    age: u64,
+    age: Age,
     calls: u32,
-    ghost below: { held < 4096 },
-    ghost long: { length ram ≡ 14 },
-    ghost small: { ((k : ℕ) → slice_index ram k ≤ 15) },
     ghost watched: { (armed ≡ true → seen ≡ true) },
-    ghost young: { age ≤ 2 ^ 60 },
     ghost few: { calls < 2 ^ 32 },
-}
-
-// What the kind fixes. There is one such value.
-#[derive(Clone, Copy)]
-pub struct Mm58167bNumbers {
-    numbers: Numbers,
-    ghost columns: { numbers.columns ≡ 14 },
-    ghost round: { numbers.round ≡ 220752000000 },
-    ghost divider: { (numbers.m ≡ 128) × (numbers.d ≡ 3) × (numbers.k ≡ 32) },
 }

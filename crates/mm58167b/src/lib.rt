@@ -3,3 +3,4 @@
 
 pub mod chip;
 mod halves;
+mod register;

@@ -1,29 +1,23 @@
 // Accesses, once it is known to which register.
 ghost use Rattle.std.specs.Prelude.{◌≡◌, ◌≤◌, MatchResult};
-ghost use Rattle.chips.specs.Questions.{AllYes, FirstNo};
+ghost use Rattle.chips.specs.declared.refusal.Refusal.TheVariants.{TooWide};
 ghost use Rattle.mm58167b.specs.Layout.{with_byte};
-ghost use Rattle.mm58167b.specs.Registers.{access_questions, after_read, shown_at, watched, with_digits};
+ghost use Rattle.mm58167b.specs.Registers.{after_read, shown_at, watched, with_digits};
 ghost use Rattle.mm58167b.specs.View.{Lands, registers};
 
 use crate::chip::Mm58167b;
 use crate::halves::with_byte;
+use crate::register::Place;
+use chips::digits::Digits;
 use chips::refusal::Refusal;
+use clock::calendar::Calendar;
 use clock::mm58167b::Running;
 
-// The address and the value of a write, once the questions that need no chip are answered.
-pub(super) fn admitted(address: u64, value: u64) -> Result<(u8, u8), Refusal>
-    ensures { MatchResult result (λ p. (p.0 ≡ address) × (p.1 ≡ value) × (p.0 ≤ 15) × AllYes (access_questions address value)) (λ e. FirstNo (access_questions address value) e) }
+// A value as a byte of the bus.
+pub(super) fn byte(value: u64) -> Result<u8, Refusal>
+    ensures { MatchResult result (λ b. (b ≡ value) × (value ≤ 255)) (λ e. (e ≡ TooWide) × (value ≤ 255 → ⊥)) }
 {
-    if address > 15 && address != 20 {
-        return Err(Refusal::NoAddress);
-    }
-    if address == 20 {
-        return Err(Refusal::NotWritable);
-    }
-    if value > 255 {
-        return Err(Refusal::TooWide);
-    }
-    Ok((address as u8, value as u8))
+    u8::try_from(value).or(Err(Refusal::TooWide))
 }
 
 impl Mm58167b {
@@ -49,24 +43,17 @@ impl Mm58167b {
         self.calls = self.calls.wrapping_add(1);
     }
 
-    pub(super) fn write_counter(&mut self, index: usize, value: u8) -> Result<(), Refusal>
-        requires { index ≤ 7 }
-        ensures { Lands (with_digits (registers self.old) (with_byte (registers self.old).digits index value) (registers self.old).ram) self.old result self.new }
+    pub(super) fn write_counter(&mut self, place: Place, value: u8) -> Result<(), Refusal>
+        ensures { Lands (with_digits (registers self.old) (with_byte (registers self.old).digits place.index value) (registers self.old).ram) self.old result self.new }
     {
-        let digits = with_byte(self.counters.face(), index, value);
-        match Running::from_face(&digits) {
-            Some(counters) => {
-                self.counters = counters;
-                Ok(())
-            }
-            None => Err(Refusal::Unlawful),
-        }
+        let digits = with_byte(Digits::shown(&self.clock.counters), place, value);
+        self.clock.counters = Running::from_face(&digits.columns).ok_or(Refusal::Unlawful)?;
+        Ok(())
     }
 
-    pub(super) fn write_ram(&mut self, index: usize, value: u8)
-        requires { index ≤ 7 }
-        ensures { registers self.new ≡ with_digits (registers self.old) (registers self.old).digits (with_byte (registers self.old).ram index value) }
+    pub(super) fn write_ram(&mut self, place: Place, value: u8)
+        ensures { registers self.new ≡ with_digits (registers self.old) (registers self.old).digits (with_byte (registers self.old).ram place.index value) }
     {
-        self.ram = with_byte(self.ram, index, value);
+        self.ram = with_byte(self.ram, place, value);
     }
 }

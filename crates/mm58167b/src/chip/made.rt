@@ -4,8 +4,11 @@ ghost use Rattle.mm58167b.specs.Registers.{made};
 ghost use Rattle.mm58167b.specs.View.{registers};
 
 use crate::chip::Mm58167b;
+use chips::age::Age;
+use chips::digits::Digits;
 use clock::mm58167b::Running;
 use clock::month_day::MonthDay;
+use clock::ticking::Ticking;
 
 impl Mm58167b {
     // 00:00:00.000 on 1 January, day of week 1; divider, RAM and status 0.
@@ -22,13 +25,12 @@ impl Mm58167b {
             date: MonthDay { day: 1, month: 1 },
         };
         Mm58167b {
-            counters,
-            held: 0,
-            ram: [0; 14],
+            clock: Ticking::started(counters),
+            ram: Digits { columns: [0; 14] },
             status: false,
             seen: false,
             armed: false,
-            age: 0,
+            age: Age { cycles: 0 },
             calls: 0,
         }
     }

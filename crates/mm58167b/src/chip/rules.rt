@@ -1,42 +1,33 @@
 // The MM58167B keeps the chip rules.
-ghost use Rattle.chips.specs.Kind.{fixed_by};
+ghost use Rattle.std.specs.Prelude.{refl};
 ghost use Rattle.chips.specs.Behaviour.{does_by};
 ghost use Rattle.mm58167b.specs.Does.{behaviour, kind as kind_167};
 ghost use Rattle.mm58167b.specs.View.{registers, state as state_167};
 ghost use Rattle.mm58167b.specs.Laws.{kind_laws, sound, keeps};
 ghost use Rattle.chips.proofs.Behaving.{rules as keep_rules, determined};
 ghost use Rattle.mm58167b.specs.Told.{registers_tell};
-ghost use Rattle.std.proofs.Common.{rules};
 
-use crate::chip::access::admitted;
-use crate::chip::{Mm58167b, Mm58167bNumbers};
+use crate::chip::Mm58167b;
+use crate::chip::access::byte;
 use crate::halves::byte_at;
+use crate::register::Register;
 use chips::ask::Waited;
-use chips::chip::{Chip, KindNumbers, OLDEST};
+use chips::chip::Chip;
+use chips::digits::Digits;
 use chips::numbers::Numbers;
 use chips::refusal::Refusal;
-use clock::divider::Divider;
-
-impl KindNumbers for Mm58167bNumbers {
-    ghost fixes = { fixed_by kind_167 };
-
-    fn numbers(&self) -> Numbers {
-        self.numbers
-    }
-}
+use clock::calendar::Calendar;
 
 impl Chip for Mm58167b {
-    type Constants = Mm58167bNumbers;
-
-    const NUMBERS: Mm58167bNumbers = Mm58167bNumbers {
-        numbers: Numbers {
-            columns: 14,
-            round: 220_752_000_000,
-            m: 128,
-            d: 3,
-            k: 32,
-        },
+    const NUMBERS: Numbers = Numbers {
+        columns: 14,
+        round: 220_752_000_000,
+        m: 128,
+        d: 3,
+        k: 32,
     };
+
+    ghost NUMBERS = { record { columns = 14; round = 220752000000; m = 128; d = 3; k = 32 } };
 
     ghost kind = { kind_167 };
 
@@ -44,7 +35,7 @@ impl Chip for Mm58167b {
 
     ghost does = { does_by behaviour registers };
 
-    ghost constants_are_the_kinds = { Prim.search rules };
+    ghost constants_are_the_kinds = { refl };
 
     ghost kind_comes_round = { kind_laws };
 
@@ -55,21 +46,15 @@ impl Chip for Mm58167b {
     ghost has_one_answer = { λ x y z a r q h k. determined behaviour registers registers_tell x y z a r q h k };
 
     fn age(&self) -> u64 {
-        self.age
+        self.age.cycles
     }
 
     fn wait(&mut self, cycles: u64) -> Result<Waited, Refusal> {
-        if cycles > OLDEST - self.age {
-            return Err(Refusal::TooOld);
-        }
-        let waited = Divider::milliseconds().wait(self.held, cycles);
-        self.counters.advance(waited.steps);
-        self.status |= self.seen & (0 < waited.steps);
-        self.held = waited.held;
-        self.age += cycles;
-        Ok(Waited {
-            steps: waited.steps,
-        })
+        let age = self.age.grown(cycles)?;
+        let steps = self.clock.wait(cycles);
+        self.status |= self.seen & (0 < steps);
+        self.age = age;
+        Ok(Waited { steps })
     }
 
     fn arm(&mut self) {
@@ -80,7 +65,7 @@ impl Chip for Mm58167b {
         if column >= 14 {
             return Err(Refusal::NoColumn);
         }
-        let digits = self.counters.face();
+        let digits = self.clock.counters.face();
         self.seen = true;
         self.calls = self.calls.wrapping_add(1);
         Ok(digits[column as usize])
@@ -93,15 +78,14 @@ impl Chip for Mm58167b {
     }
 
     fn read(&mut self, address: u64) -> Result<u8, Refusal> {
-        match address {
-            0..=7 => {
+        Ok(match Register::try_from(address)? {
+            Register::Counter(place) => {
                 self.seen = true;
-                Ok(byte_at(&self.counters.face(), address as usize))
+                byte_at(&Digits::shown(&self.clock.counters), place)
             }
-            8..=15 => Ok(byte_at(&self.ram, address as usize - 8)),
-            20 => Ok(self.read_status()),
-            _ => Err(Refusal::NoAddress),
-        }
+            Register::Ram(place) => byte_at(&self.ram, place),
+            Register::Status => self.read_status(),
+        })
     }
 
     // This chip never rings.
@@ -110,12 +94,13 @@ impl Chip for Mm58167b {
     }
 
     fn write(&mut self, address: u64, value: u64) -> Result<(), Refusal> {
-        let (address, value) = admitted(address, value)?;
-        if address < 8 {
-            self.write_counter(address as usize, value)
-        } else {
-            self.write_ram(address as usize - 8, value);
-            Ok(())
+        match Register::try_from(address)? {
+            Register::Counter(place) => self.write_counter(place, byte(value)?),
+            Register::Ram(place) => {
+                self.write_ram(place, byte(value)?);
+                Ok(())
+            }
+            Register::Status => Err(Refusal::NotWritable),
         }
     }
 }

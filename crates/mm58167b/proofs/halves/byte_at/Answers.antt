@@ -8,7 +8,7 @@ pub returns : goal.returns
 returns c =
     let h = c.digit_at-high in
     let l = c.digit_at-low in
-    let d = c.args.digits.now in
+    let d = c.args.digits.now.columns in
     let s : (h.result * 16) % 256 ≡ h.result * 16 = omega (arith, h.ensures.small) in
     ap (λ x. bit_or x l.result) s ∙ or_shifted h.result 4 l.result (omega (arith, l.ensures.small))
     ∙ (let e : h.result * 16 + l.result ≡ 16 * h.result + l.result = omega arith in e)

@@ -1,26 +1,22 @@
-use Rattle.std.proofs.Common.{◌-◌, Ok, sym, refl, ◌∙◌, arith}
+use Rattle.std.proofs.Common.{◌≡◌, ◌+◌, Ok, ◌∙◌, sym, refl, subst, inl, arith}
 use Rattle.clock.proofs.Shown167.{face_lawful}
+use Rattle.mm58167b.specs.Address.{Is}
 use Rattle.mm58167b.specs.Layout.{with_byte}
 use Rattle.mm58167b.specs.Registers.{with_digits}
 use Rattle.mm58167b.specs.View.{registers}
-use Rattle.mm58167b.proofs.Writing.{lands, to_counter, to_ram}
+use Rattle.mm58167b.proofs.Writing.{lands, ram_written}
 use Rattle.mm58167b.proofs.chip.rules.Mm58167bChip.write.Goals as goal
 
-pub returns-then-address-lt8 : goal.returns-then-address-lt8
-returns-then-address-lt8 c =
-    let w = c.in_ok-address.ensures in
+pub returns-in_ok-byte-in-Ram : goal.returns-in_ok-byte-in-Ram
+returns-in_ok-byte-in-Ram c =
     let x = c.args.self.now in
     let s = registers x in
-    lands x c.write_counter.result c.write_counter.new.self c.args.address c.args.value
-    (with_digits s (with_byte s.digits c.in_ok-address.address c.in_ok-address.value) s.ram) w.3
-    (to_counter s c.args.address c.args.value (omega (arith, w.0)) ∙ (λ i. with_digits s (with_byte s.digits (sym w.0 i) (sym w.1 i)) s.ram)) c.write_counter.ensures
-
-pub returns-else-address-lt8 : goal.returns-else-address-lt8
-returns-else-address-lt8 c =
-    let w = c.in_ok-address.ensures in
-    let x = c.args.self.now in
-    let s = registers x in
-    lands x (Ok tt) c.write_ram.new.self c.args.address c.args.value
-    (with_digits s s.digits (with_byte s.ram (c.in_ok-address.address - 8) c.in_ok-address.value)) w.3
-    (to_ram s c.args.address c.args.value (omega (arith, w.0)) ∙ (λ i. with_digits s s.digits (with_byte s.ram (sym w.0 i - 8) (sym w.1 i))))
-    ((face_lawful x.counters, tt), (refl, c.write_ram.ensures))
+    let p = c.in-Ram.place in
+    let a = c.args.address in
+    let e : c.args.address ≡ 8 + p.index = subst (λ r. Is r a) c.in-Ram.is c.in_ok-place.ensures in
+    let b = c.in_ok-byte-in-Ram in
+    lands x (Ok tt) c.write_ram.new.self a c.args.value
+    (with_digits s s.digits (with_byte s.ram p.index b.field-0))
+    (inl (omega (arith, p.within)), ((λ f. omega (arith, p.within)), (b.ensures.1, tt)))
+    (ram_written s p.index a p.within e c.args.value ∙ (λ i. with_digits s s.digits (with_byte s.ram p.index (sym b.ensures.0 i))))
+    ((face_lawful x.clock.counters, tt), (refl, c.write_ram.ensures))
