@@ -4,7 +4,6 @@ use Rattle.std.proofs.Common.{sym, subst, arith}
 use Rattle.std.proofs.lemmas.Bool.{cond_both}
 use Rattle.clock.specs.Times.{times}
 use Rattle.clock.proofs.Face274.{round_law}
-use Rattle.clock.proofs.KnownDividers.{tenths_period}
 use Rattle.chips.specs.declared.ask.Ask.TheVariants.{Wait}
 use Rattle.chips.specs.Kind.{KindLaws, Sound}
 use Rattle.chips.specs.Rules.{Waits, OneCall, Stays, Writes}
@@ -32,9 +31,9 @@ sound x =
       wide = t.long;
       digits = t.small;
       lawful_while_running = t.lawful;
-      held_below_the_period = omega (arith, tenths_period, t.below);
+      held_below_the_period = t.below;
       none_held_while_stopped = t.none_held;
-      age_within_the_limit = x.young;
+      age_within_the_limit = x.age.young;
       calls_of_32_bits = x.few;
     }
 

@@ -153,18 +153,22 @@ abbrev pub stop_written : Bool → Time → Time
 stop_written true t = record { digits = slice_set t.digits 0 0; running = false; held = 0 }
 stop_written false t = record { digits = t.digits; running = true; held = t.held }
 
--- address 0: bit 2 stop, bit 1 select, bit 0 timer halt
-abbrev pub control_written : Registers → ℕ → Registers
-control_written s v = record {
-  time = stop_written (bit 2 v) s.time;
-  select = bit 1 v;
+-- the control register: stop, select and timer halt
+abbrev pub controlled : Registers → Bool → Bool → Bool → Registers
+controlled s stop select halt = record {
+  time = stop_written stop s.time;
+  select = select;
   interrupt = s.interrupt;
-  timer = cond (bit 0 v) Halted (started s.interrupt s.timer);
+  timer = cond halt Halted (started s.interrupt s.timer);
   flags = s.flags;
   armed = s.armed;
   age = s.age;
   calls = s.calls;
 }
+
+-- address 0: bit 2 stop, bit 1 select, bit 0 timer halt
+abbrev pub control_written : Registers → ℕ → Registers
+control_written s v = controlled s (bit 2 v) (bit 1 v) (bit 0 v)
 
 -- address 15 with select 1: the timer halts
 abbrev pub interrupt_written : Registers → ℕ → Registers

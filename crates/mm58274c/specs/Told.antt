@@ -3,13 +3,18 @@ use Rattle.std.specs.Prelude.{◌≡◌, ℕ, ◌<◌, ◌≤◌, false, length,
 use Rattle.std.proofs.Common.{ap, arith}
 use denote.Struct.Record.{values_one}
 use Rattle.clock.specs.contracts.mm58274c.Running as face
-use Rattle.clock.proofs.Shown274.{face_lawful, lawful_digits, lawful_long, told_by_face}
+use Rattle.clock.specs.contracts.mm58274c.calendar.RunningCalendar15.TheImpl.{ghosts}
+use Rattle.clock.specs.Divider.{period, tenths}
+use Rattle.clock.specs.Widths.{columns_274, four_bits_274}
+use Rattle.clock.proofs.Periods.{period_some}
+use Rattle.clock.proofs.Shown274.{face_lawful, told_by_face}
+use Rattle.clock.proofs.Told.{ticking_told}
+use Rattle.chips.specs.contracts.age.Age as age
+use Rattle.chips.proofs.Told.{age_told, digits_told}
 use Rattle.mm58274c.specs.declared.counters.Counters.{Counters}
 use Rattle.mm58274c.specs.declared.counters.Counters.TheVariants.{Stopped, Running}
 use Rattle.mm58274c.specs.declared.chip.Mm58274c.{Mm58274c}
 use Rattle.mm58274c.specs.contracts.counters.Counters as counters
-use Rattle.mm58274c.specs.contracts.counters.Stopped as stopped
-use Rattle.mm58274c.specs.contracts.counters.Ticking as ticking
 use Rattle.mm58274c.specs.contracts.timer.Timer as timer
 use Rattle.mm58274c.specs.contracts.flags.Flags as flags
 use Rattle.mm58274c.specs.contracts.chip.Mm58274c as chip
@@ -20,37 +25,37 @@ pub record TimeSound (t : Time) : Type 0 where
   pub long : length t.digits ≡ 15
   pub small : (k : ℕ) → slice_index t.digits k ≤ 15
   pub lawful : RunsLawfully t
-  pub below : t.held < 16384
+  pub below : t.held < period tenths
   pub none_held : t.running ≡ false → t.held ≡ 0
 
 pub time_sound : (c : Counters) → TimeSound (time c)
-time_sound (Stopped c) = record {
-  long = c.long;
-  small = c.small;
+time_sound (Stopped digits) = record {
+  long = digits.long;
+  small = digits.small;
   lawful = λ e. absurd (let z : ◌≡◌ {A = ℕ} 0 1 = cc in omega arith);
-  below = omega arith;
+  below = period_some tenths (record { some_pass = omega arith; some_count = omega arith });
   none_held = λ _. refl;
 }
-time_sound (Running c) =
-    let law = face_lawful c.face in
+time_sound (Running clock) =
+    let law = face_lawful clock.counters in
     record {
-      long = lawful_long _ law;
-      small = lawful_digits _ law;
+      long = columns_274 _ law;
+      small = four_bits_274 _ law;
       lawful = λ _. law;
-      below = c.below;
+      below = clock.below;
       none_held = λ e. absurd (let z : ◌≡◌ {A = ℕ} 0 1 = cc in omega arith);
     }
 
 counters_told : (a b : Counters) → time a ≡ time b → a ≡ b
-counters_told (Stopped a) (Stopped b) e = ap Stopped (values_one stopped.struct stopped.the_propositions a b (λ i. ((e i).digits, tt)))
+counters_told (Stopped a) (Stopped b) e = ap Stopped (digits_told 15 a b (ap (λ t. t.digits) e))
 counters_told (Running a) (Running b) e =
-    let f = told_by_face a.face b.face (ap (λ t. t.digits) e) in
-    ap Running (values_one ticking.struct (ticking.the_propositions (face.the_row).coded) a b (λ i. (f i, ((e i).held, tt))))
+    ap Running (ticking_told face.the_row 15 ghosts a b (told_by_face a.counters b.counters (ap (λ t. t.digits) e)) (ap (λ t. t.held) e))
 counters_told (Stopped a) (Running b) e = absurd (let r = ap (λ t. t.running) e in let z : ◌≡◌ {A = ℕ} 0 1 = cc in omega arith)
 counters_told (Running a) (Stopped b) e = absurd (let r = ap (λ t. t.running) e in let z : ◌≡◌ {A = ℕ} 0 1 = cc in omega arith)
 
 pub registers_tell : (x y : Mm58274c) → registers x ≡ registers y → x ≡ y
 registers_tell x y e =
     let c = counters_told x.counters y.counters (ap (λ s. s.time) e) in
-    values_one chip.struct (chip.the_propositions (counters.the_row).coded (timer.the_row).coded (flags.the_row).coded) x y
-    (λ i. (c i, ((e i).select, ((e i).interrupt, ((e i).timer, ((e i).flags, ((e i).armed, ((e i).age, ((e i).calls, tt)))))))))
+    let age_is = age_told x.age y.age (ap (λ s. s.age) e) in
+    values_one chip.struct (chip.the_propositions (counters.the_row).coded (timer.the_row).coded (flags.the_row).coded (age.the_row).coded) x y
+    (λ i. (c i, ((e i).select, ((e i).interrupt, ((e i).timer, ((e i).flags, ((e i).armed, (age_is i, ((e i).calls, tt)))))))))

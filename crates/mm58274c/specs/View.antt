@@ -11,8 +11,8 @@ use Rattle.mm58274c.specs.declared.chip.Mm58274c.{Mm58274c}
 use Rattle.mm58274c.specs.Registers.{Time, Registers, RunsLawfully, rung}
 
 abbrev pub time : Counters → Time
-time (Stopped c) = record { digits = c.digits; running = false; held = 0 }
-time (Running c) = record { digits = face c.face; running = true; held = c.held }
+time (Stopped digits) = record { digits = digits.columns; running = false; held = 0 }
+time (Running clock) = record { digits = face clock.counters; running = true; held = clock.held }
 
 -- the counters' time becomes t, unless they run then and t's digits are no lawful face
 abbrev pub Becomes : Time → Result Counters Refusal → Type 0
@@ -27,7 +27,7 @@ registers x = record {
   timer = x.timer;
   flags = x.flags;
   armed = x.armed;
-  age = x.age;
+  age = x.age.cycles;
   calls = x.calls;
 }
 

@@ -1,6 +1,9 @@
 // Registers taken apart by shifts and masks.
 ghost use Rattle.std.specs.Prelude.{◌≡◌, ◌≤◌};
+ghost use Rattle.clock.specs.Modes.{is24};
 ghost use Rattle.mm58274c.specs.Bits.{bit, cut, active_bits, stored_setting};
+
+use clock::mode::HourMode;
 
 // Bit `place` of a register of four bits.
 pub(crate) fn has_bit(register: u8, place: u8) -> bool
@@ -19,13 +22,18 @@ pub(crate) fn low_bits(digit: u8, bits: u8) -> u8
 }
 
 // The active bits of the digit in a column. Tens of hours has one less in 12-hour mode.
-pub(crate) fn active(column: usize, mode24: bool) -> u8
+pub(crate) fn active(column: usize, mode: HourMode) -> u8
     requires { column ≤ 13 }
-    ensures { (result ≡ active_bits mode24 column) × (result ≤ 4) }
+    ensures { (result ≡ active_bits (is24 mode) column) × (result ≤ 4) }
 {
     match column {
         2 | 4 | 13 => 3,
-        6 => { if mode24 { 2 } else { 1 } }
+        6 => {
+            match mode {
+                HourMode::Twelve => 1,
+                HourMode::TwentyFour => 2,
+            }
+        }
         8 => 2,
         10 => 1,
         _ => 4,

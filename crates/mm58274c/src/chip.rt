@@ -1,11 +1,11 @@
 // An MM58274C.
-ghost use Rattle.std.specs.Prelude.{◌≡◌, ◌^◌, ◌<◌, ◌≤◌};
+ghost use Rattle.std.specs.Prelude.{◌^◌, ◌<◌};
 ghost use Rattle.mm58274c.specs.Timer.{Timed};
 
 use crate::counters::Counters;
 use crate::flags::Flags;
 use crate::timer::Timer;
-use chips::numbers::Numbers;
+use chips::age::Age;
 
 mod made;
 mod read;
@@ -21,18 +21,8 @@ pub struct Mm58274c {
     timer: Timer,
     flags: Flags,
     armed: bool,
-    age: u64,
+    age: Age,
     calls: u32,
     ghost timed: { Timed interrupt timer },
-    ghost young: { age ≤ 2 ^ 60 },
     ghost few: { calls < 2 ^ 32 },
-}
-
-// What the kind fixes. There is one such value.
-#[derive(Clone, Copy)]
-pub struct Mm58274cNumbers {
-    numbers: Numbers,
-    ghost columns: { numbers.columns ≡ 15 },
-    ghost round: { numbers.round ≡ 220903200000 },
-    ghost divider: { (numbers.m ≡ 16) × (numbers.d ≡ 1) × (numbers.k ≡ 3072) },
 }

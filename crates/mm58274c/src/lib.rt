@@ -3,7 +3,9 @@
 
 mod bits;
 pub mod chip;
+mod control;
 mod counters;
 mod digits;
 mod flags;
+mod register;
 mod timer;

@@ -7,6 +7,7 @@ use crate::chip::Mm58274c;
 use crate::counters::Counters;
 use crate::flags::Flags;
 use crate::timer::Timer;
+use chips::age::Age;
 
 impl Mm58274c {
     // Stopped, every register 0, no flag.
@@ -24,7 +25,7 @@ impl Mm58274c {
                 kept: false,
             },
             armed: false,
-            age: 0,
+            age: Age { cycles: 0 },
             calls: 0,
         }
     }

@@ -1,42 +1,33 @@
 // The MM58274C keeps the chip rules.
-ghost use Rattle.chips.specs.Kind.{fixed_by};
+ghost use Rattle.std.specs.Prelude.{refl};
 ghost use Rattle.chips.specs.Behaviour.{does_by};
 ghost use Rattle.mm58274c.specs.Does.{behaviour, kind as kind_274};
 ghost use Rattle.mm58274c.specs.View.{registers, state as state_274};
 ghost use Rattle.mm58274c.specs.Laws.{kind_laws, sound, keeps};
 ghost use Rattle.chips.proofs.Behaving.{rules as keep_rules, determined};
 ghost use Rattle.mm58274c.specs.Told.{registers_tell};
-ghost use Rattle.std.proofs.Common.{rules};
 
-use crate::chip::write::admitted;
-use crate::chip::{Mm58274c, Mm58274cNumbers};
+use crate::chip::Mm58274c;
+use crate::chip::write::nibble;
+use crate::control::Control;
 use crate::digits::{with_digit, with_setting};
+use crate::register::Register;
 use crate::timer::Event;
 use chips::ask::Waited;
-use chips::chip::{Chip, KindNumbers, OLDEST};
+use chips::chip::Chip;
 use chips::numbers::Numbers;
 use chips::refusal::Refusal;
 
-impl KindNumbers for Mm58274cNumbers {
-    ghost fixes = { fixed_by kind_274 };
-
-    fn numbers(&self) -> Numbers {
-        self.numbers
-    }
-}
-
 impl Chip for Mm58274c {
-    type Constants = Mm58274cNumbers;
-
-    const NUMBERS: Mm58274cNumbers = Mm58274cNumbers {
-        numbers: Numbers {
-            columns: 15,
-            round: 220_903_200_000,
-            m: 16,
-            d: 1,
-            k: 3072,
-        },
+    const NUMBERS: Numbers = Numbers {
+        columns: 15,
+        round: 220_903_200_000,
+        m: 16,
+        d: 1,
+        k: 3072,
     };
+
+    ghost NUMBERS = { record { columns = 15; round = 220903200000; m = 16; d = 1; k = 3072 } };
 
     ghost kind = { kind_274 };
 
@@ -44,7 +35,7 @@ impl Chip for Mm58274c {
 
     ghost does = { does_by behaviour registers };
 
-    ghost constants_are_the_kinds = { Prim.search rules };
+    ghost constants_are_the_kinds = { refl };
 
     ghost kind_comes_round = { kind_laws };
 
@@ -55,19 +46,17 @@ impl Chip for Mm58274c {
     ghost has_one_answer = { λ x y z a r q h k. determined behaviour registers registers_tell x y z a r q h k };
 
     fn age(&self) -> u64 {
-        self.age
+        self.age.cycles
     }
 
     fn wait(&mut self, cycles: u64) -> Result<Waited, Refusal> {
-        if cycles > OLDEST - self.age {
-            return Err(Refusal::TooOld);
-        }
+        let age = self.age.grown(cycles)?;
         let steps = self.counters.wait(cycles);
         let (timer, rang) = self.timer.on(Event::Steps(steps), self.interrupt);
         self.timer = timer;
         self.flags.changed |= 0 < steps;
         self.flags.rang |= rang;
-        self.age += cycles;
+        self.age = age;
         Ok(Waited { steps })
     }
 
@@ -82,7 +71,7 @@ impl Chip for Mm58274c {
         }
         let digits = self.counters.digits();
         self.calls = self.calls.wrapping_add(1);
-        Ok(digits[column as usize])
+        Ok(digits.columns[column as usize])
     }
 
     fn settle(&mut self) -> bool {
@@ -92,12 +81,14 @@ impl Chip for Mm58274c {
     }
 
     fn read(&mut self, address: u64) -> Result<u8, Refusal> {
-        match address {
-            0 => Ok(self.read_control()),
-            15 if self.select => Ok(self.interrupt),
-            1..=15 => Ok(self.counters.digits()[address as usize - 1]),
-            _ => Err(Refusal::NoAddress),
-        }
+        let digits = self.counters.digits();
+        Ok(match Register::try_from(address)? {
+            Register::Control => self.read_control(),
+            Register::Tenths => digits.columns[0],
+            Register::Digit(column) => digits.columns[column.index],
+            Register::Selected if self.select => self.interrupt,
+            Register::Selected => digits.columns[14],
+        })
     }
 
     fn take(&mut self) -> bool {
@@ -108,16 +99,16 @@ impl Chip for Mm58274c {
     }
 
     fn write(&mut self, address: u64, value: u64) -> Result<(), Refusal> {
-        let (address, value) = admitted(address, value)?;
         let digits = self.counters.digits();
-        match address {
-            0 => self.write_control(value),
-            15 if self.select => {
-                self.load_interrupt(value);
+        match Register::try_from(address)? {
+            Register::Control => self.write_control(Control::try_from(nibble(value)?)?),
+            Register::Tenths => Err(Refusal::NotWritable),
+            Register::Digit(column) => self.hold(with_digit(digits, column, nibble(value)?)),
+            Register::Selected if self.select => {
+                self.load_interrupt(nibble(value)?);
                 Ok(())
             }
-            15 => self.hold(with_setting(digits, value)),
-            _ => self.hold(with_digit(digits, address as usize - 1, value)),
+            Register::Selected => self.hold(with_setting(digits, nibble(value)?)),
         }
     }
 }

@@ -6,7 +6,6 @@ ghost use Rattle.clock.specs.Times.{times};
 ghost use Rattle.mm58274c.specs.View.{time};
 
 use crate::counters::Counters;
-use clock::divider::Divider;
 
 impl Counters {
     // Waits, and answers the steps counted.
@@ -16,15 +15,9 @@ impl Counters {
         ensures running { (time self.new).running ≡ (time self.old).running }
         ensures held { (time self.new).held ≡ (if (time self.old).running then ((time self.old).held + cycles) % period tenths else (time self.old).held) }
     {
-        match *self {
+        match self {
             Counters::Stopped(_) => 0,
-            Counters::Running(mut ticking) => {
-                let waited = Divider::tenths().wait(ticking.held, cycles);
-                ticking.face.advance(waited.steps);
-                ticking.held = waited.held;
-                *self = Counters::Running(ticking);
-                waited.steps
-            }
+            Counters::Running(clock) => clock.wait(cycles),
         }
     }
 }

@@ -1,4 +1,4 @@
-use Rattle.std.proofs.Common.{◌+◌, ◌||◌, ltb, sym, ◌∙◌, arith}
+use Rattle.std.proofs.Common.{◌||◌, ltb, sym, ◌∙◌, arith}
 use Rattle.mm58274c.specs.View.{registers}
 use Rattle.mm58274c.specs.Waiting.{at_once}
 use Rattle.mm58274c.proofs.chip.rules.Mm58274cChip.wait.Goals as goal
@@ -8,7 +8,7 @@ returns c =
     let s = registers c.args.self.now in
     let w = c.wait-steps in
     let o = at_once s c.args.cycles w.result c.on-timer.result w.ensures.steps c.on-timer.ensures.after in (
-      (omega arith, tt),
+      (omega (arith, c.in_ok-age.ensures, c.in_ok-age.age.young), tt),
       (
         (λ i. record { steps = w.ensures.steps i }),
         (λ i. record {
@@ -18,7 +18,7 @@ returns c =
           timer = c.on-timer.result.0;
           flags = record { changed = s.flags.changed || ltb 0 w.result; rang = s.flags.rang || c.on-timer.result.1; kept = s.flags.kept };
           armed = s.armed;
-          age = s.age + c.args.cycles;
+          age = c.in_ok-age.ensures i;
           calls = s.calls;
         }) ∙ sym o,
       ),
