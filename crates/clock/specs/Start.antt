@@ -2,25 +2,25 @@
 use Rattle.std.specs.Prelude.{ℕ, ◌+◌, ◌*◌, ◌≤◌, Bool, false, ◌==◌}
 use Rattle.clock.specs.Counter.{days_of}
 use Rattle.clock.specs.Mm58274c.{HoursInRange}
-use Rattle.clock.specs.declared.digits.Digits.{Digits}
+use Rattle.clock.specs.declared.digits.TwoDigits.{TwoDigits}
 
 -- the number that two digits show
-abbrev pub number : Digits → ℕ
+abbrev pub number : TwoDigits → ℕ
 number d = d.0 + 10 * d.1
 
 -- decimal digits that show a number from first to last
-abbrev pub Between : Digits → ℕ → ℕ → Type 0
+abbrev pub Between : TwoDigits → ℕ → ℕ → Type 0
 Between d first last = (d.0 ≤ 9) × (d.1 ≤ 9) × (first ≤ number d) × (number d ≤ last)
 
 -- an hour under a mode
-abbrev pub HourShown : Digits → Bool → Bool → Type 0
+abbrev pub HourShown : TwoDigits → Bool → Bool → Type 0
 HourShown hours pm mode24 = (hours.0 ≤ 9) × (hours.1 ≤ 9) × HoursInRange mode24 (number hours) pm
 
 -- a date with its leap count
-abbrev pub DateShown : Digits → Digits → Digits → ℕ → Type 0
+abbrev pub DateShown : TwoDigits → TwoDigits → TwoDigits → ℕ → Type 0
 DateShown day month year leap =
     Between day 1 (days_of (number month) (leap == 0)) × Between month 1 12 × Between year 0 99 × (leap ≤ 3)
 
 -- a day of a year that is never a leap year
-abbrev pub MonthDayShown : Digits → Digits → Type 0
+abbrev pub MonthDayShown : TwoDigits → TwoDigits → Type 0
 MonthDayShown day month = Between day 1 (days_of (number month) false) × Between month 1 12

@@ -8,7 +8,7 @@ ghost use Rattle.std.proofs.Common.{rules};
 
 use crate::calendar::Calendar;
 use crate::counter::turned;
-use crate::digits::Digits;
+use crate::digits::TwoDigits;
 use crate::divider::Divider;
 use crate::mm58167b::Running;
 use crate::mm58167b::start::month_day_shown;
@@ -47,14 +47,14 @@ impl Calendar<14> for Running {
         if digits.len() != 14 {
             return None;
         }
-        let milliseconds = Digits(digits[0], 0).between(0, 9)?;
-        let hundredths = Digits(digits[1], digits[2]).between(0, 99)?;
-        let seconds = Digits(digits[3], digits[4]).between(0, 59)?;
-        let minutes = Digits(digits[5], digits[6]).between(0, 59)?;
-        let hours = Digits(digits[7], digits[8]).between(0, 23)?;
-        let weekday = Digits(digits[9], 0).between(1, 7)?;
-        let day = Digits(digits[10], digits[11]);
-        let date = month_day_shown(day, Digits(digits[12], digits[13]))?;
+        let milliseconds = TwoDigits(digits[0], 0).between(0, 9)?;
+        let hundredths = TwoDigits(digits[1], digits[2]).between(0, 99)?;
+        let seconds = TwoDigits(digits[3], digits[4]).between(0, 59)?;
+        let minutes = TwoDigits(digits[5], digits[6]).between(0, 59)?;
+        let hours = TwoDigits(digits[7], digits[8]).between(0, 23)?;
+        let weekday = TwoDigits(digits[9], 0).between(1, 7)?;
+        let day = TwoDigits(digits[10], digits[11]);
+        let date = month_day_shown(day, TwoDigits(digits[12], digits[13]))?;
         Some(Running {
             milliseconds,
             hundredths,

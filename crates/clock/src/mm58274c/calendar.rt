@@ -8,7 +8,7 @@ ghost use Rattle.std.proofs.Common.{rules};
 
 use crate::calendar::Calendar;
 use crate::counter::turned;
-use crate::digits::Digits;
+use crate::digits::TwoDigits;
 use crate::divider::Divider;
 use crate::hour::HourOfDay;
 use crate::mm58274c::Running;
@@ -50,14 +50,14 @@ impl Calendar<15> for Running {
             return None;
         }
         let setting = Setting::from(digits[14]);
-        let seconds = Digits(digits[1], digits[2]).between(0, 59)?;
-        let minutes = Digits(digits[3], digits[4]).between(0, 59)?;
-        let hour = hour_shown(Digits(digits[5], digits[6]), setting.pm, setting.mode)?;
-        let day = Digits(digits[7], digits[8]);
-        let month = Digits(digits[9], digits[10]);
-        let date = date_shown(day, month, Digits(digits[11], digits[12]), setting.leap)?;
-        let tenths = Digits(digits[0], 0).between(0, 9)?;
-        let weekday = Digits(digits[13], 0).between(1, 7)?;
+        let seconds = TwoDigits(digits[1], digits[2]).between(0, 59)?;
+        let minutes = TwoDigits(digits[3], digits[4]).between(0, 59)?;
+        let hour = hour_shown(TwoDigits(digits[5], digits[6]), setting.pm, setting.mode)?;
+        let day = TwoDigits(digits[7], digits[8]);
+        let month = TwoDigits(digits[9], digits[10]);
+        let date = date_shown(day, month, TwoDigits(digits[11], digits[12]), setting.leap)?;
+        let tenths = TwoDigits(digits[0], 0).between(0, 9)?;
+        let weekday = TwoDigits(digits[13], 0).between(1, 7)?;
         Some(Running {
             tenths,
             seconds,

@@ -6,7 +6,7 @@ ghost use Rattle.clock.specs.Registers274.{face};
 ghost use Rattle.clock.specs.Start.{number, HourShown, DateShown};
 
 use crate::date::Date;
-use crate::digits::Digits;
+use crate::digits::TwoDigits;
 use crate::hour::HourOfDay;
 use crate::mm58274c::Running;
 use crate::mode::HourMode;
@@ -14,7 +14,7 @@ use crate::month::days_of;
 use crate::setting::Setting;
 
 // The hour that its digits show under a mode.
-pub(super) fn hour_shown(hours: Digits, pm: bool, mode: HourMode) -> Option<HourOfDay>
+pub(super) fn hour_shown(hours: TwoDigits, pm: bool, mode: HourMode) -> Option<HourOfDay>
     ensures { MatchOption result (HourShown hours pm (is24 mode) → ⊥) (λ h. (h.hours ≡ number hours) × (h.pm ≡ pm) × (h.mode ≡ mode) × HourShown hours pm (is24 mode)) }
 {
     let hours = match mode {
@@ -30,7 +30,12 @@ pub(super) fn hour_shown(hours: Digits, pm: bool, mode: HourMode) -> Option<Hour
 }
 
 // The date that its digits show with a leap count.
-pub(super) fn date_shown(day: Digits, month: Digits, year: Digits, leap: u8) -> Option<Date>
+pub(super) fn date_shown(
+    day: TwoDigits,
+    month: TwoDigits,
+    year: TwoDigits,
+    leap: u8,
+) -> Option<Date>
     ensures { MatchOption result (DateShown day month year leap → ⊥) (λ d. (d.day ≡ number day) × (d.month ≡ number month) × (d.year ≡ number year) × (d.leap ≡ leap) × DateShown day month year leap) }
 {
     let month = month.between(1, 12)?;
