@@ -1,72 +1,59 @@
-// Accesses that tell what they came to.
-use crate::words::{Refused, Several};
+// A chip on its bus. Each access tells what it came to.
+use crate::refused::Refused;
 use chips::chip::Chip;
 use std::io;
+use words::Several;
 
-pub(crate) fn write<C: Chip>(
-    rt: &HostRuntime,
-    chip: &mut C,
-    address: u64,
-    value: u64,
-    what: &str,
-) -> io::Result<()> {
-    let refused = Refused(chip.write(address, value).err());
-    println!(rt; "  write {value} at {address}: {what}{refused}")
+#[derive(Drop)]
+pub(crate) struct Bus<'a, C: Chip> {
+    pub(crate) rt: &'a HostRuntime,
+    pub(crate) chip: &'a mut C,
+    // what the chip's divider counts
+    pub(crate) step: &'a str,
 }
 
-pub(crate) fn read<C: Chip>(
-    rt: &HostRuntime,
-    chip: &mut C,
-    address: u64,
-    what: &str,
-) -> io::Result<()> {
-    match chip.read(address) {
-        Ok(value) => println!(rt; "  read at {address}: {value}, {what}"),
-        Err(refusal) => {
-            let refused = Refused(Some(refusal));
-            println!(rt; "  read at {address}: {what}{refused}")
+impl<C: Chip> Bus<'_, C> {
+    pub(crate) fn write(&mut self, address: u64, value: u64, what: &str) -> io::Result<()> {
+        let refused = Refused(self.chip.write(address, value).err());
+        println!(self.rt; "  write {value} at {address}: {what}{refused}")
+    }
+
+    pub(crate) fn read(&mut self, address: u64, what: &str) -> io::Result<()> {
+        match self.chip.read(address) {
+            Ok(value) => println!(self.rt; "  read at {address}: {value}, {what}"),
+            Err(refusal) => {
+                println!(self.rt; "  read at {address}: {what}{}", Refused(Some(refusal)))
+            }
         }
     }
-}
 
-pub(crate) fn wait<C: Chip>(
-    rt: &HostRuntime,
-    chip: &mut C,
-    cycles: u64,
-    step: &str,
-) -> io::Result<()> {
-    let answer = chip.wait(cycles);
-    let cycles = Several {
-        count: cycles,
-        of: "cycle",
-    };
-    match answer {
-        Ok(waited) => {
-            let steps = Several {
-                count: waited.steps,
-                of: step,
-            };
-            println!(rt; "  wait {cycles}: {steps}")
-        }
-        Err(refusal) => {
-            let refused = Refused(Some(refusal));
-            println!(rt; "  wait {cycles}{refused}")
+    pub(crate) fn wait(&mut self, cycles: u64) -> io::Result<()> {
+        let answer = self.chip.wait(cycles);
+        let cycles = Several(cycles, "cycle");
+        match answer {
+            Ok(waited) => println!(self.rt;
+                "  wait {cycles}: {}",
+                Several(waited.steps, self.step)
+            ),
+            Err(refusal) => println!(self.rt; "  wait {cycles}{}", Refused(Some(refusal))),
         }
     }
-}
 
-pub(crate) fn take<C: Chip>(rt: &HostRuntime, chip: &mut C) -> io::Result<()> {
-    let rang = if chip.take() { "a ring" } else { "no ring" };
-    println!(rt; "  take: {rang}")
-}
-
-// What the registers at `N` addresses from `first` on hold; none where a read is refused.
-pub(crate) fn registers<C: Chip, const N: usize>(chip: &mut C, first: u64) -> Option<[u8; N]> {
-    let mut values = [0u8; N];
-    let mut address = first;
-    for value in values.iter_mut() {
-        *value = chip.read(address).ok()?;
-        address = address.saturating_add(1);
+    pub(crate) fn take(&mut self) -> io::Result<()> {
+        let rang = if self.chip.take() {
+            "a ring"
+        } else {
+            "no ring"
+        };
+        println!(self.rt; "  take: {rang}")
     }
-    Some(values)
+
+    // What the registers at `N` addresses from `first` on hold; none where a read is refused.
+    pub(crate) fn registers<const N: usize>(&mut self, first: u64) -> Option<[u8; N]> {
+        let mut values = [0; N];
+        for (address, value) in (first..).zip(&mut values) {
+            *value = self.chip.read(address).ok()?;
+        }
+        Some(values)
+    }
 }

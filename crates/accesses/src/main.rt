@@ -2,35 +2,46 @@
 #![tactic(auto)]
 
 use chips::chip::{Chip, numbers_of};
+use chips::numbers::Numbers;
 use mm58167b::chip::Mm58167b;
 use mm58274c::chip::Mm58274c;
 use std::io;
+use words::Grouped;
 
 mod bus;
 mod caption;
+mod refused;
 mod tape;
-mod words;
 
-use words::Grouped;
+use bus::Bus;
 
 // What a kind of chip fixes.
 fn introduce<C: Chip>(rt: &HostRuntime, name: &str, step: &str) -> io::Result<()> {
-    let numbers = numbers_of::<C>();
-    let columns = numbers.columns;
-    let round = Grouped(numbers.round);
-    let m = numbers.m;
-    let d = numbers.d;
-    let k = Grouped(u64::from(numbers.k));
+    let Numbers {
+        columns,
+        round,
+        m,
+        d,
+        k,
+    } = numbers_of::<C>();
     println!(rt;
-        "{name}: {columns} columns, {d} of every {m} cycles dropped, a {step} every {k} of the rest, a round of {round}."
+        "{name}: {columns} columns, {d} of every {m} cycles dropped, a {step} every {} of the rest, a round of {}.",
+        Grouped(u64::from(k)),
+        Grouped(round)
     )
 }
 
 fn main(rt: HostRuntime) -> io::Result<()> {
     introduce::<Mm58274c>(&rt, "MM58274C", "tenth of a second")?;
     introduce::<Mm58167b>(&rt, "MM58167B", "millisecond")?;
-    let mut clock = Mm58274c::new();
-    caption::follow(&rt, &mut clock)?;
-    let mut clock = Mm58167b::new();
-    tape::follow(&rt, &mut clock)
+    caption::follow(&mut Bus {
+        rt: &rt,
+        chip: &mut Mm58274c::new(),
+        step: "tenth",
+    })?;
+    tape::follow(&mut Bus {
+        rt: &rt,
+        chip: &mut Mm58167b::new(),
+        step: "millisecond",
+    })
 }

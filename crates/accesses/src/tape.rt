@@ -1,10 +1,9 @@
 // A tape controller, which takes its time from an MM58167B.
-use crate::bus;
-use crate::words::month_name;
-use chips::chip::Chip;
+use crate::bus::Bus;
 use clock::divider::SECOND;
 use mm58167b::chip::Mm58167b;
 use std::io;
+use words::Month;
 
 // the last second of the year, with one day that it has not
 const NIGHT: [(u64, u64, &str); 8] = [
@@ -19,10 +18,9 @@ const NIGHT: [(u64, u64, &str); 8] = [
 ];
 
 // Two digits a byte, the tens in the high half.
-fn show(rt: &HostRuntime, chip: &mut Mm58167b) -> io::Result<()> {
-    let read: Option<[u8; 8]> = bus::registers(chip, 0);
-    let Some(registers) = read else {
-        return println!(rt; "  read at 0 to 7: refused");
+fn show(bus: &mut Bus<'_, Mm58167b>) -> io::Result<()> {
+    let Some(registers) = bus.registers::<8>(0) else {
+        return println!(bus.rt; "  read at 0 to 7: refused");
     };
     let [
         thousandths,
@@ -35,39 +33,34 @@ fn show(rt: &HostRuntime, chip: &mut Mm58167b) -> io::Result<()> {
         month,
     ] = registers;
     let thousandths = thousandths >> 4;
-    let month = month_name((month >> 4).wrapping_mul(10).wrapping_add(month & 15));
-    println!(rt;
+    let month = Month((month >> 4) * 10 + (month & 15));
+    println!(bus.rt;
         "  read at 0 to 7: {day:02x} {month}, {hours:02x}:{minutes:02x}:{seconds:02x}.{hundredths:02x}{thousandths}, day of week {weekday}"
     )
 }
 
 // The status tells a step only if a counter was read before it.
-fn over_midnight(rt: &HostRuntime, chip: &mut Mm58167b) -> io::Result<()> {
-    bus::read(rt, chip, 20, "no step has come since a counter was read")?;
-    bus::wait(rt, chip, SECOND, "millisecond")?;
-    bus::read(
-        rt,
-        chip,
-        20,
-        "no counter had been read since the status was",
-    )?;
-    show(rt, chip)?;
-    bus::wait(rt, chip, 32, "millisecond")?;
-    bus::read(rt, chip, 20, "a step has come since a counter was read")
+fn over_midnight(bus: &mut Bus<'_, Mm58167b>) -> io::Result<()> {
+    bus.read(20, "no step has come since a counter was read")?;
+    bus.wait(SECOND)?;
+    bus.read(20, "no counter had been read since the status was")?;
+    show(bus)?;
+    bus.wait(32)?;
+    bus.read(20, "a step has come since a counter was read")
 }
 
-pub(crate) fn follow(rt: &HostRuntime, chip: &mut Mm58167b) -> io::Result<()> {
-    println!(rt;
+pub(crate) fn follow(bus: &mut Bus<'_, Mm58167b>) -> io::Result<()> {
+    println!(bus.rt;
         "\nA tape controller has an MM58167B, which runs from the moment that it is made."
     )?;
-    show(rt, chip)?;
-    println!(rt; "\nIts driver sets it to the last second of the year, two digits a byte.")?;
+    show(bus)?;
+    println!(bus.rt; "\nIts driver sets it to the last second of the year, two digits a byte.")?;
     for (address, value, what) in NIGHT {
-        bus::write(rt, chip, address, value, what)?;
+        bus.write(address, value, what)?;
     }
-    show(rt, chip)?;
-    over_midnight(rt, chip)?;
-    println!(rt; "\nA half that a byte lacks drops what is written, in RAM too.")?;
-    bus::write(rt, chip, 13, 0xc7, "0xc7, in the layout of day of week")?;
-    bus::read(rt, chip, 13, "the low half alone")
+    show(bus)?;
+    over_midnight(bus)?;
+    println!(bus.rt; "\nA half that a byte lacks drops what is written, in RAM too.")?;
+    bus.write(13, 0xc7, "0xc7, in the layout of day of week")?;
+    bus.read(13, "the low half alone")
 }

@@ -13,10 +13,11 @@ use clock::hour::HourOfDay;
 use clock::mm58274c::Running;
 use clock::mode::HourMode;
 use std::io;
+use words::Several;
 
-mod words;
+mod display;
 
-use words::{Day, Digits, Several, half};
+use display::{Day, Digits, TimeOfDay};
 
 const DAY: u64 = 24 * 60 * 60 * SECOND;
 
@@ -64,87 +65,72 @@ fn before_midnight(date: Date, weekday: u8) -> CaptionClock
     CaptionClock { counters, held: 0 }
 }
 
-fn show(rt: &HostRuntime, counters: &Running) -> io::Result<()> {
-    let day = Day(counters.date);
-    let hours = counters.hour.hours;
-    let minutes = counters.minutes;
-    let seconds = counters.seconds;
-    let tenths = counters.tenths;
-    let half = half(&counters.hour);
-    let weekday = counters.weekday;
-    let leap = counters.date.leap;
-    let face = Digits(counters.face());
-    println!(rt;
-        "  The clock shows {day}, {hours:02}:{minutes:02}:{seconds:02}.{tenths}{half}, day of week {weekday}, leap count {leap} (face {face})."
-    )
+// A caption machine that tells what its clock counts and shows.
+#[derive(Drop)]
+struct CaptionMachine<'a> {
+    rt: &'a HostRuntime,
+    clock: CaptionClock,
 }
 
-// Waits and tells what was counted.
-fn wait(rt: &HostRuntime, clock: &mut CaptionClock, what: &str, cycles: u64) -> io::Result<()> {
-    let steps = Several {
-        count: clock.wait(cycles),
-        of: "tenth",
-    };
-    let cycles = Several {
-        count: cycles,
-        of: "cycle",
-    };
-    println!(rt; "  {what}: a wait of {cycles} counts {steps}.")
-}
+impl CaptionMachine<'_> {
+    fn show(&self) -> io::Result<()> {
+        let counters = self.clock.counters;
+        println!(self.rt;
+            "  The clock shows {}, {}, day of week {}, leap count {} (face {}).",
+            Day(counters.date),
+            TimeOfDay(counters),
+            counters.weekday,
+            counters.date.leap,
+            Digits(counters.face())
+        )
+    }
 
-// Over midnight, a day on, and a round on.
-fn follow(rt: &HostRuntime, mut clock: CaptionClock) -> io::Result<()> {
-    let divider = Divider::tenths();
-    let tenth = divider.period() / divider.counted(divider.period());
-    show(rt, &clock.counters)?;
-    wait(rt, &mut clock, "Just short of a tenth", tenth - 1)?;
-    wait(
-        rt,
-        &mut clock,
-        "One cycle more, on top of those left over",
-        1,
-    )?;
-    show(rt, &clock.counters)?;
-    wait(rt, &mut clock, "A whole day on", DAY)?;
-    show(rt, &clock.counters)?;
-    let before = clock.counters.face();
-    let periods = Running::round() / divider.counted(divider.period());
-    wait(
-        rt,
-        &mut clock,
-        "A whole round on",
-        periods * divider.period(),
-    )?;
-    show(rt, &clock.counters)?;
-    if clock.counters.face() == before {
-        println!(rt; "  That is the face from before the round.")
-    } else {
-        println!(rt; "  That is another face than before the round.")
+    // Waits and tells what was counted.
+    fn wait(&mut self, what: &str, cycles: u64) -> io::Result<()> {
+        let steps = Several(self.clock.wait(cycles), "tenth");
+        println!(self.rt;
+            "  {what}: a wait of {} counts {steps}.",
+            Several(cycles, "cycle")
+        )
+    }
+
+    // Over midnight, a day on, and a round on.
+    fn follow(&mut self) -> io::Result<()> {
+        let divider = Divider::tenths();
+        let period = divider.period();
+        let tenths = divider.counted(period);
+        self.show()?;
+        self.wait("Just short of a tenth", period / tenths - 1)?;
+        self.wait("One cycle more, on top of those left over", 1)?;
+        self.show()?;
+        self.wait("A whole day on", DAY)?;
+        self.show()?;
+        let before = self.clock.counters.face();
+        self.wait("A whole round on", Running::round() / tenths * period)?;
+        self.show()?;
+        if self.clock.counters.face() == before {
+            println!(self.rt; "  That is the face from before the round.")
+        } else {
+            println!(self.rt; "  That is another face than before the round.")
+        }
     }
 }
 
 // The crystal and the divider.
 fn introduce(rt: &HostRuntime) -> io::Result<()> {
     let divider = Divider::tenths();
-    let second = Several {
-        count: SECOND,
-        of: "cycle",
-    };
-    let tenths = Several {
-        count: divider.counted(SECOND),
-        of: "tenth",
-    };
+    let period = divider.period();
     println!(rt; "A caption machine takes its time from an MM58274C.")?;
-    println!(rt; "Its crystal makes {second} a second, and its divider counts {tenths} in them.")?;
-    let period = Several {
-        count: divider.period(),
-        of: "cycle",
-    };
-    let steps = Several {
-        count: divider.counted(divider.period()),
-        of: "tenth",
-    };
-    println!(rt; "After every {period}, which are {steps}, the divider stands as it stood.")
+    println!(rt;
+        "Its crystal makes {} a second, and its divider counts {} in them.",
+        Several(SECOND, "cycle"),
+        Several(divider.counted(SECOND), "tenth")
+    )?;
+    println!(rt;
+        "After every {}, which are {}, the divider stands as it stood.",
+        Several(period, "cycle"),
+        Several(divider.counted(period), "tenth")
+    )
 }
 
 fn main(rt: HostRuntime) -> io::Result<()> {
@@ -156,7 +142,8 @@ fn main(rt: HostRuntime) -> io::Result<()> {
         year: 84,
     };
     println!(rt; "\nA leap year: the clock has just been started.")?;
-    follow(&rt, before_midnight(leap_year, 3))?;
+    let clock = before_midnight(leap_year, 3);
+    CaptionMachine { rt: &rt, clock }.follow()?;
     let common_year = Date {
         day: 28,
         month: 2,
@@ -164,5 +151,6 @@ fn main(rt: HostRuntime) -> io::Result<()> {
         year: 85,
     };
     println!(rt; "\nA common year: the clock has just been started.")?;
-    follow(&rt, before_midnight(common_year, 5))
+    let clock = before_midnight(common_year, 5);
+    CaptionMachine { rt: &rt, clock }.follow()
 }
