@@ -7,9 +7,9 @@ use words::Month;
 
 // A face, one hexadecimal digit a column, lowest first.
 #[derive(Clone, Copy)]
-pub struct Digits(pub [u8; 15]);
+pub struct Face(pub [u8; 15]);
 
-impl fmt::Display for Digits {
+impl fmt::Display for Face {
     fn fmt<W: fmt::Write>(&self, f: &mut fmt::Formatter<W>) -> fmt::Result {
         for digit in self.0 {
             write!(f, "{digit:x}")?;

@@ -1,49 +1,26 @@
 // Follows a caption machine's clock over midnight, over a day and over a round, and tells what each wait counted and what the clock showed.
 #![tactic(auto)]
 
-ghost use Rattle.std.specs.Prelude.{◌≡◌, ◌+◌, ◌%◌, ◌≤◌};
-ghost use Rattle.clock.specs.Divider.{period, stepped, tenths};
-ghost use Rattle.clock.specs.Mm58274c.{step};
-ghost use Rattle.clock.specs.Registers274.{face};
-ghost use Rattle.clock.specs.Times.{times};
+ghost use Rattle.std.specs.Prelude.{◌≡◌, ◌≤◌};
 
+use clock::calendar::Calendar;
 use clock::date::Date;
-use clock::divider::{Divider, SECOND};
+use clock::divider::SECOND;
 use clock::hour::HourOfDay;
 use clock::mm58274c::Running;
 use clock::mode::HourMode;
+use clock::ticking::Ticking;
 use std::io;
 use words::Several;
 
 mod display;
 
-use display::{Day, Digits, TimeOfDay};
+use display::{Day, Face, TimeOfDay};
 
 const DAY: u64 = 24 * 60 * 60 * SECOND;
 
-// A running MM58274C, as far as counting goes: its counters, and the cycles that its divider holds.
-#[derive(Clone, Copy)]
-struct CaptionClock {
-    counters: Running,
-    held: u64,
-}
-
-impl CaptionClock {
-    // Waits, and answers the tenths of a second counted.
-    fn wait(&mut self, cycles: u64) -> u64
-        ensures steps { result ≡ stepped tenths self.old.held cycles }
-        ensures held { self.new.held ≡ (self.old.held + cycles) % period tenths }
-        ensures face { face self.new.counters ≡ times result step (face self.old.counters) }
-    {
-        let waited = Divider::tenths().wait(self.held, cycles);
-        self.counters.advance(waited.steps);
-        self.held = waited.held;
-        waited.steps
-    }
-}
-
 // A clock just started, a tenth before midnight.
-fn before_midnight(date: Date, weekday: u8) -> CaptionClock
+fn before_midnight(date: Date, weekday: u8) -> Ticking<Running, 15>
     requires { (1 ≤ weekday) × (weekday ≤ 7) }
     ensures held { result.held ≡ 0 }
     ensures time { (result.counters.tenths ≡ 9) × (result.counters.seconds ≡ 59) × (result.counters.minutes ≡ 59) × (result.counters.hour.hours ≡ 23) }
@@ -62,14 +39,14 @@ fn before_midnight(date: Date, weekday: u8) -> CaptionClock
         weekday,
         date,
     };
-    CaptionClock { counters, held: 0 }
+    Ticking::started(counters)
 }
 
 // A caption machine that tells what its clock counts and shows.
 #[derive(Drop)]
 struct CaptionMachine<'a> {
     rt: &'a HostRuntime,
-    clock: CaptionClock,
+    clock: Ticking<Running, 15>,
 }
 
 impl CaptionMachine<'_> {
@@ -81,7 +58,7 @@ impl CaptionMachine<'_> {
             TimeOfDay(counters),
             counters.weekday,
             counters.date.leap,
-            Digits(counters.face())
+            Face(counters.face())
         )
     }
 
@@ -96,7 +73,7 @@ impl CaptionMachine<'_> {
 
     // Over midnight, a day on, and a round on.
     fn follow(&mut self) -> io::Result<()> {
-        let divider = Divider::tenths();
+        let divider = Running::divider();
         let period = divider.period();
         let tenths = divider.counted(period);
         self.show()?;
@@ -118,7 +95,7 @@ impl CaptionMachine<'_> {
 
 // The crystal and the divider.
 fn introduce(rt: &HostRuntime) -> io::Result<()> {
-    let divider = Divider::tenths();
+    let divider = Running::divider();
     let period = divider.period();
     println!(rt; "A caption machine takes its time from an MM58274C.")?;
     println!(rt;
