@@ -1,6 +1,8 @@
 // Digits as registers hold them.
-ghost use Rattle.std.specs.Prelude.{◌≡◌, ℕ, ◌%◌, ◌≤◌, length, slice_index, slice_set};
+ghost use Rattle.std.specs.Prelude.{◌≡◌, ℕ, ◌%◌, ◌<◌, ◌≤◌, length, MatchResult, slice_index, slice_set};
+ghost use Rattle.chips.specs.declared.refusal.Refusal.TheVariants.{NoColumn};
 
+use crate::refusal::Refusal;
 use clock::calendar::Calendar;
 
 // Digits of four bits, one a column, lowest first.
@@ -19,6 +21,16 @@ impl<const N: usize> Digits<N> {
         Digits {
             columns: counters.face(),
         }
+    }
+
+    // The digit of a column.
+    pub fn digit(&self, column: u64) -> Result<u8, Refusal>
+        ensures { MatchResult result (λ digit. (digit ≡ slice_index self.now.columns column) × (column < N)) (λ e. (e ≡ NoColumn) × (column < N → ⊥)) }
+    {
+        if column >= N as u64 {
+            return Err(Refusal::NoColumn);
+        }
+        Ok(self.columns[column as usize])
     }
 
     // These digits with one written, of which four bits are kept. Past the last column nothing is written.

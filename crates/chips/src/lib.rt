@@ -3,6 +3,7 @@
 
 pub mod age;
 pub mod ask;
+pub mod calls;
 pub mod chip;
 pub mod digits;
 pub mod numbers;

@@ -34,7 +34,7 @@ sound x =
       held_below_the_period = omega (arith, x.clock.below);
       none_held_while_stopped = λ e. absurd (let z : ◌≡◌ {A = ℕ} 0 1 = cc in omega arith);
       age_within_the_limit = x.age.young;
-      calls_of_32_bits = x.few;
+      calls_of_32_bits = x.calls.few;
     }
 
 -- ---- the rules, over registers

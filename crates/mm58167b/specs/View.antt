@@ -18,7 +18,7 @@ registers x = record {
   seen = x.seen;
   armed = x.armed;
   age = x.age.cycles;
-  calls = x.calls;
+  calls = x.calls.made;
 }
 
 -- a write makes t of the registers of x, unless t has no lawful face

@@ -1,7 +1,8 @@
 // An MM58167B. It always runs.
-ghost use Rattle.std.specs.Prelude.{◌≡◌, ◌^◌, ◌<◌, true};
+ghost use Rattle.std.specs.Prelude.{◌≡◌, true};
 
 use chips::age::Age;
+use chips::calls::Calls;
 use chips::digits::Digits;
 use clock::mm58167b::Running;
 use clock::ticking::Ticking;
@@ -21,7 +22,6 @@ pub struct Mm58167b {
     seen: bool,
     armed: bool,
     age: Age,
-    calls: u32,
+    calls: Calls,
     ghost watched: { (armed ≡ true → seen ≡ true) },
-    ghost few: { calls < 2 ^ 32 },
 }

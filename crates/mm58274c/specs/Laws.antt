@@ -34,7 +34,7 @@ sound x =
       held_below_the_period = t.below;
       none_held_while_stopped = t.none_held;
       age_within_the_limit = x.age.young;
-      calls_of_32_bits = x.few;
+      calls_of_32_bits = x.calls.few;
     }
 
 -- ---- the rules, over registers

@@ -10,7 +10,8 @@ use Rattle.clock.proofs.Periods.{period_some}
 use Rattle.clock.proofs.Shown274.{face_lawful, told_by_face}
 use Rattle.clock.proofs.Told.{ticking_told}
 use Rattle.chips.specs.contracts.age.Age as age
-use Rattle.chips.proofs.Told.{age_told, digits_told}
+use Rattle.chips.specs.contracts.calls.Calls as calls
+use Rattle.chips.proofs.Told.{age_told, calls_told, digits_told}
 use Rattle.mm58274c.specs.declared.counters.Counters.{Counters}
 use Rattle.mm58274c.specs.declared.counters.Counters.TheVariants.{Stopped, Running}
 use Rattle.mm58274c.specs.declared.chip.Mm58274c.{Mm58274c}
@@ -57,5 +58,6 @@ pub registers_tell : (x y : Mm58274c) → registers x ≡ registers y → x ≡ 
 registers_tell x y e =
     let c = counters_told x.counters y.counters (ap (λ s. s.time) e) in
     let age_is = age_told x.age y.age (ap (λ s. s.age) e) in
-    values_one chip.struct (chip.the_propositions (counters.the_row).coded (timer.the_row).coded (flags.the_row).coded (age.the_row).coded) x y
-    (λ i. (c i, ((e i).select, ((e i).interrupt, ((e i).timer, ((e i).flags, ((e i).armed, (age_is i, ((e i).calls, tt)))))))))
+    let calls_are = calls_told x.calls y.calls (ap (λ s. s.calls) e) in
+    values_one chip.struct (chip.the_propositions (counters.the_row).coded (timer.the_row).coded (flags.the_row).coded (age.the_row).coded (calls.the_row).coded) x y
+    (λ i. (c i, ((e i).select, ((e i).interrupt, ((e i).timer, ((e i).flags, ((e i).armed, (age_is i, (calls_are i, tt)))))))))

@@ -28,7 +28,7 @@ registers x = record {
   flags = x.flags;
   armed = x.armed;
   age = x.age.cycles;
-  calls = x.calls;
+  calls = x.calls.made;
 }
 
 -- a write makes t of the registers of x, unless t runs with no lawful face

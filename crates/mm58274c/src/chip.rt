@@ -1,11 +1,11 @@
 // An MM58274C.
-ghost use Rattle.std.specs.Prelude.{◌^◌, ◌<◌};
 ghost use Rattle.mm58274c.specs.Timer.{Timed};
 
 use crate::counters::Counters;
 use crate::flags::Flags;
 use crate::timer::Timer;
 use chips::age::Age;
+use chips::calls::Calls;
 
 mod made;
 mod read;
@@ -22,7 +22,6 @@ pub struct Mm58274c {
     flags: Flags,
     armed: bool,
     age: Age,
-    calls: u32,
+    calls: Calls,
     ghost timed: { Timed interrupt timer },
-    ghost few: { calls < 2 ^ 32 },
 }

@@ -40,7 +40,7 @@ impl Mm58167b {
         self.read_status();
         self.seen = true;
         self.armed = true;
-        self.calls = self.calls.wrapping_add(1);
+        self.calls.one_more();
     }
 
     pub(super) fn write_counter(&mut self, place: Place, value: u8) -> Result<(), Refusal>

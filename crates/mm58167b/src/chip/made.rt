@@ -5,6 +5,7 @@ ghost use Rattle.mm58167b.specs.View.{registers};
 
 use crate::chip::Mm58167b;
 use chips::age::Age;
+use chips::calls::Calls;
 use chips::digits::Digits;
 use clock::mm58167b::Running;
 use clock::month_day::MonthDay;
@@ -31,7 +32,7 @@ impl Mm58167b {
             seen: false,
             armed: false,
             age: Age { cycles: 0 },
-            calls: 0,
+            calls: Calls { made: 0 },
         }
     }
 }

@@ -16,7 +16,6 @@ use chips::chip::Chip;
 use chips::digits::Digits;
 use chips::numbers::Numbers;
 use chips::refusal::Refusal;
-use clock::calendar::Calendar;
 
 impl Chip for Mm58167b {
     const NUMBERS: Numbers = Numbers {
@@ -62,13 +61,10 @@ impl Chip for Mm58167b {
     }
 
     fn digit(&mut self, column: u64) -> Result<u8, Refusal> {
-        if column >= 14 {
-            return Err(Refusal::NoColumn);
-        }
-        let digits = self.clock.counters.face();
+        let digit = Digits::shown(&self.clock.counters).digit(column)?;
         self.seen = true;
-        self.calls = self.calls.wrapping_add(1);
-        Ok(digits[column as usize])
+        self.calls.one_more();
+        Ok(digit)
     }
 
     fn settle(&mut self) -> bool {

@@ -8,6 +8,7 @@ use crate::counters::Counters;
 use crate::flags::Flags;
 use crate::timer::Timer;
 use chips::age::Age;
+use chips::calls::Calls;
 
 impl Mm58274c {
     // Stopped, every register 0, no flag.
@@ -26,7 +27,7 @@ impl Mm58274c {
             },
             armed: false,
             age: Age { cycles: 0 },
-            calls: 0,
+            calls: Calls { made: 0 },
         }
     }
 }

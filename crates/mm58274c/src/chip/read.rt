@@ -25,6 +25,6 @@ impl Mm58274c {
         self.flags.kept |= self.flags.rang;
         self.read_control();
         self.armed = true;
-        self.calls = self.calls.wrapping_add(1);
+        self.calls.one_more();
     }
 }

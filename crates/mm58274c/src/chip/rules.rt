@@ -66,12 +66,9 @@ impl Chip for Mm58274c {
 
     // Column 14, the setting register, is looked at under either select.
     fn digit(&mut self, column: u64) -> Result<u8, Refusal> {
-        if column >= 15 {
-            return Err(Refusal::NoColumn);
-        }
-        let digits = self.counters.digits();
-        self.calls = self.calls.wrapping_add(1);
-        Ok(digits.columns[column as usize])
+        let digit = self.counters.digits().digit(column)?;
+        self.calls.one_more();
+        Ok(digit)
     }
 
     fn settle(&mut self) -> bool {
