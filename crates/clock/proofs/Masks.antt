@@ -1,12 +1,9 @@
 -- Shifts and masks of small registers as quotients and remainders.
 use Rattle.std.proofs.Common.{◌≡◌, ℕ, ◌+◌, ◌*◌, ◌%◌, ◌<◌, Bool, true, false, ap, ◌∙◌, arith}
 use mir.Val.{bool_byte}
-use lib.Bits.{bit_and, bit_or}
-use Rattle.std.proofs.lemmas.Nat.{and_mask, or_shifted}
+use lib.Bits.{bit_or}
+use Rattle.std.proofs.lemmas.Nat.{or_shifted}
 use Rattle.clock.specs.Mm58274c.{bit}
-
-pub and1 : (n : ℕ) → bit_and n 1 ≡ n % 2
-and1 n = and_mask n 1
 
 -- two bits, one bit and one bit in one register
 pub register : (l p h : ℕ) → l < 4 → p < 2 → h < 2 → bit_or (bit_or ((l * 4) % 256) ((p * 2) % 256)) h ≡ 4 * l + 2 * p + h

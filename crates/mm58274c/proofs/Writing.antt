@@ -1,5 +1,5 @@
 -- A write by its register.
-use Rattle.std.proofs.Common.{◌≡◌, ℕ, ◌-◌, true, false, cond, eqb, [], ◌∷◌, Result, sym, ap, ◌∙◌, subst}
+use Rattle.std.proofs.Common.{◌≡◌, ℕ, ◌-◌, true, cond, eqb, [], ◌∷◌, Result, sym, ap, ◌∙◌, subst}
 use Rattle.std.proofs.lemmas.Bool.{ne_eqb}
 use Rattle.chips.specs.declared.refusal.Refusal.{Refusal}
 use Rattle.chips.specs.declared.refusal.Refusal.TheVariants.{Unlawful}
@@ -16,14 +16,8 @@ lands x r y a v t h e l =
     (subst (λ (s : Registers). Lands s x r y) (sym e) l)
 
 module _ (s : Registers) (v : ℕ) where
-  pub to_control : (a : ℕ) → a ≡ 0 → written s a v ≡ control_written s v
-  to_control a e = ap (λ b. written s b v) e
-
   pub to_interrupt : (a : ℕ) → a ≡ 15 → s.select ≡ true → written s a v ≡ interrupt_written s v
   to_interrupt a e f = ap (λ b. written s b v) e ∙ ap (λ b. cond b (interrupt_written s v) (with_digits s (setting_written s.time.digits v))) f
-
-  pub to_setting : (a : ℕ) → a ≡ 15 → s.select ≡ false → written s a v ≡ with_digits s (setting_written s.time.digits v)
-  to_setting a e f = ap (λ b. written s b v) e ∙ ap (λ b. cond b (interrupt_written s v) (with_digits s (setting_written s.time.digits v))) f
 
   pub to_digit : (a : ℕ) → (a ≡ 0 → ⊥) → (a ≡ 15 → ⊥) → written s a v ≡ with_digits s (digit_written s.time.digits (a - 1) v)
   to_digit a p q =
