@@ -25,45 +25,37 @@ pub(crate) enum Act {
     NoDigit(u64, u8),
 }
 
-fn refused<T: Drop>(answer: Result<T, Refusal>) -> u8 {
-    match answer {
-        Ok(_) => 0,
-        Err(refusal) => refusal.number(),
-    }
+// The place in the table of the first call that answers otherwise.
+#[derive(Clone, Copy, PartialEq, Eq, Debug)]
+pub(crate) struct WrongAt(usize);
+
+// The number of the refusal; none where the answer is no refusal.
+fn refused<T: Drop>(answer: Result<T, Refusal>) -> Option<u8> {
+    answer.err().map(Refusal::number)
 }
 
-fn steps(answer: Result<Waited, Refusal>) -> Option<u64> {
-    match answer {
-        Ok(waited) => Some(waited.steps),
-        Err(_) => None,
-    }
-}
-
-fn answers<C: Chip>(chip: &mut C, act: Act) -> bool {
+fn is_right<C: Chip>(chip: &mut C, act: Act) -> bool {
     match act {
-        Act::Wait(cycles, counted) => steps(chip.wait(cycles)) == Some(counted),
-        Act::Read(address, value) => chip.read(address).ok() == Some(value),
-        Act::Write(address, value) => chip.write(address, value).is_ok(),
+        Act::Wait(cycles, steps) => chip.wait(cycles) == Ok(Waited { steps }),
+        Act::Read(address, value) => chip.read(address) == Ok(value),
+        Act::Write(address, value) => chip.write(address, value) == Ok(()),
         Act::Take(rang) => chip.take() == rang,
         Act::Arm => {
             chip.arm();
             true
         }
-        Act::Digit(column, digit) => chip.digit(column).ok() == Some(digit),
+        Act::Digit(column, digit) => chip.digit(column) == Ok(digit),
         Act::Settle(quiet) => chip.settle() == quiet,
-        Act::NoWait(cycles, number) => refused(chip.wait(cycles)) == number,
-        Act::NoRead(address, number) => refused(chip.read(address)) == number,
-        Act::NoWrite(address, value, number) => refused(chip.write(address, value)) == number,
-        Act::NoDigit(column, number) => refused(chip.digit(column)) == number,
+        Act::NoWait(cycles, number) => refused(chip.wait(cycles)) == Some(number),
+        Act::NoRead(address, number) => refused(chip.read(address)) == Some(number),
+        Act::NoWrite(address, value, number) => refused(chip.write(address, value)) == Some(number),
+        Act::NoDigit(column, number) => refused(chip.digit(column)) == Some(number),
     }
 }
 
-// The place of the first call that answers otherwise; none where all answer as they must.
-pub(crate) fn first_wrong<C: Chip>(chip: &mut C, acts: &[Act]) -> Option<usize> {
-    for (place, act) in acts.iter().enumerate() {
-        if !answers(chip, *act) {
-            return Some(place);
-        }
+pub(crate) fn perform<C: Chip>(chip: &mut C, acts: &[Act]) -> Result<(), WrongAt> {
+    match acts.iter().position(|act| !is_right(chip, *act)) {
+        Some(place) => Err(WrongAt(place)),
+        None => Ok(()),
     }
-    None
 }

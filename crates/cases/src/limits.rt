@@ -1,5 +1,5 @@
 // The age limit, and numbers as large as they come.
-use crate::acts::{Act, first_wrong};
+use crate::acts::{Act, WrongAt, perform};
 use chips::chip::{Chip, numbers_of};
 use mm58167b::chip::Mm58167b;
 use mm58274c::chip::Mm58274c;
@@ -7,7 +7,7 @@ use mm58274c::chip::Mm58274c;
 const OLDEST: u64 = 1 << 60;
 
 // The steps that a wait to the age OLDEST - 1 counts on a chip just made, and then the limit.
-fn limit<C: Chip>(chip: &mut C, steps: u64) -> Option<usize> {
+fn limit<C: Chip>(chip: &mut C, steps: u64) -> Result<(), WrongAt> {
     let acts = [
         Act::NoWait(OLDEST + 1, 5),
         Act::NoWait(u64::MAX, 5),
@@ -18,16 +18,16 @@ fn limit<C: Chip>(chip: &mut C, steps: u64) -> Option<usize> {
         Act::NoWait(1, 5),
         Act::Wait(0, 0),
     ];
-    first_wrong(chip, &acts)
+    perform(chip, &acts)
 }
 
 #[test]
 fn age_2_60_less_1_takes_a_wait_of_1_and_refuses_2(rt: HostRuntime) {
     let mut stopped = Mm58274c::new();
-    assert_eq!(rt; limit(&mut stopped, 0), None);
+    assert_eq!(rt; limit(&mut stopped, 0), Ok(()));
     assert_eq!(rt; stopped.age(), OLDEST);
     let mut running = Mm58167b::new();
-    assert_eq!(rt; limit(&mut running, OLDEST / 4_096 * 125), None);
+    assert_eq!(rt; limit(&mut running, OLDEST / 4_096 * 125), Ok(()));
     assert_eq!(rt; running.age(), OLDEST);
 }
 

@@ -1,23 +1,53 @@
 // Both chips' counters written a second time, as docs/COUNTING.md tells them, to be counted one step at a time.
 
+// What a chip shows in N columns, and its single steps.
+pub(crate) trait Plain<const N: usize>: Copy {
+    fn step(&mut self);
+
+    fn face(&self) -> [u8; N];
+}
+
 // A counter that goes from its last value to its first.
 #[derive(Clone, Copy)]
-pub(crate) struct Counter {
-    pub value: u8,
-    pub first: u8,
-    pub last: u8,
+struct Counter {
+    value: u8,
+    first: u8,
+    last: u8,
 }
 
 impl Counter {
+    fn from_zero(value: u8, last: u8) -> Counter {
+        Counter {
+            value,
+            first: 0,
+            last,
+        }
+    }
+
+    fn from_one(value: u8, last: u8) -> Counter {
+        Counter {
+            value,
+            first: 1,
+            last,
+        }
+    }
+
+    fn units(self) -> u8 {
+        self.value % 10
+    }
+
+    fn tens(self) -> u8 {
+        self.value / 10
+    }
+
     // One on, and whether it rolled over.
     fn count(&mut self) -> bool {
-        let rolls_over = self.value == self.last;
-        self.value = if rolls_over {
-            self.first
-        } else {
-            self.value.wrapping_add(1)
-        };
-        rolls_over
+        if self.value < self.last {
+            self.value += 1;
+            return false;
+        }
+        self.value = self.first;
+        true
     }
 }
 
@@ -31,169 +61,212 @@ fn count_all(counters: &mut [Counter]) -> bool {
     true
 }
 
-pub(crate) fn from_zero(value: u8, last: u8) -> Counter {
-    Counter {
-        value,
-        first: 0,
-        last,
-    }
-}
-
-fn units(counter: Counter) -> u8 {
-    counter.value % 10
-}
-
-fn tens(counter: Counter) -> u8 {
-    counter.value / 10
-}
-
-// The calendar of both chips; the MM58167B has no leap years and shows no year.
 #[derive(Clone, Copy)]
-pub(crate) struct Calendar {
-    pub weekday: Counter,
+pub(crate) struct Date {
     pub day: u8,
-    pub month: Counter,
-    pub leap: Counter,
-    pub year: Counter,
-    pub leap_years: bool,
+    pub month: u8,
+}
+
+// The days of both chips.
+#[derive(Clone, Copy)]
+struct Calendar {
+    weekday: Counter,
+    day: u8,
+    month: Counter,
 }
 
 impl Calendar {
-    pub(crate) fn of(day: u8, month: u8, leap: u8, year: u8, leap_years: bool) -> Calendar {
+    // On the last day of the week.
+    fn on(date: Date) -> Calendar {
         Calendar {
-            weekday: Counter {
-                value: 7,
-                first: 1,
-                last: 7,
-            },
-            day,
-            month: Counter {
-                value: month,
-                first: 1,
-                last: 12,
-            },
-            leap: from_zero(leap, 3),
-            year: from_zero(year, 99),
-            leap_years,
+            weekday: Counter::from_one(7, 7),
+            day: date.day,
+            month: Counter::from_one(date.month, 12),
         }
     }
 
-    fn last_day(&self) -> u8 {
-        match self.month.value {
-            2 if self.leap_years && self.leap.value == 0 => 29,
-            2 => 28,
+    // A day on, where February has so many days, and whether that is a new year.
+    fn next_day(&mut self, february: u8) -> bool {
+        self.weekday.count();
+        let last = match self.month.value {
+            2 => february,
             4 | 6 | 9 | 11 => 30,
             _ => 31,
+        };
+        if self.day < last {
+            self.day += 1;
+            return false;
+        }
+        self.day = 1;
+        self.month.count()
+    }
+}
+
+// The years since the last leap year, and the last two digits of the year.
+#[derive(Clone, Copy)]
+pub(crate) struct Year {
+    pub leap: u8,
+    pub year: u8,
+}
+
+// An hour as its mode shows it.
+#[derive(Clone, Copy)]
+pub(crate) enum Hour {
+    Am(u8),
+    Pm(u8),
+    Of24(u8),
+}
+
+impl Hour {
+    fn value(self) -> u8 {
+        match self {
+            Hour::Am(hour) | Hour::Pm(hour) | Hour::Of24(hour) => hour,
         }
     }
 
-    fn next_day(&mut self) {
-        let _ = self.weekday.count();
-        if self.day < self.last_day() {
-            self.day = self.day.wrapping_add(1);
-            return;
+    fn next(self) -> Hour {
+        match self {
+            Hour::Am(11) => Hour::Pm(12),
+            Hour::Pm(11) => Hour::Am(12),
+            Hour::Am(hour) if hour < 12 => Hour::Am(hour + 1),
+            Hour::Pm(hour) if hour < 12 => Hour::Pm(hour + 1),
+            Hour::Of24(hour) if hour < 23 => Hour::Of24(hour + 1),
+            Hour::Am(_) => Hour::Am(1),
+            Hour::Pm(_) => Hour::Pm(1),
+            Hour::Of24(_) => Hour::Of24(0),
         }
-        self.day = 1;
-        if self.month.count() {
-            let _ = self.leap.count();
-            let _ = self.year.count();
+    }
+
+    fn is_midnight(self) -> bool {
+        matches!(self, Hour::Am(12) | Hour::Of24(0))
+    }
+
+    // The lowest two bits of the setting register.
+    fn setting(self) -> u8 {
+        match self {
+            Hour::Am(_) => 0,
+            Hour::Of24(_) => 1,
+            Hour::Pm(_) => 2,
         }
     }
 }
 
-// An MM58274C: tenths, seconds and minutes, then the hours by their mode, then the calendar.
+// An MM58274C: tenths, seconds and minutes, then the hour, then the calendar with its leap years.
 #[derive(Clone, Copy)]
 pub(crate) struct Mm58274c {
-    pub low: [Counter; 3],
-    pub hours: u8,
-    pub pm: bool,
-    pub mode24: bool,
-    pub calendar: Calendar,
+    low: [Counter; 3],
+    hour: Hour,
+    calendar: Calendar,
+    leap: Counter,
+    year: Counter,
 }
 
 impl Mm58274c {
-    pub(crate) fn step(&mut self) {
-        if count_all(&mut self.low) && self.next_hour() {
-            self.calendar.next_day();
+    // A tenth before the hour ends.
+    pub(crate) fn at_the_end_of(hour: Hour, date: Date, year: Year) -> Mm58274c {
+        Mm58274c {
+            low: [
+                Counter::from_zero(9, 9),
+                Counter::from_zero(59, 59),
+                Counter::from_zero(59, 59),
+            ],
+            hour,
+            calendar: Calendar::on(date),
+            leap: Counter::from_zero(year.leap, 3),
+            year: Counter::from_zero(year.year, 99),
         }
     }
 
     // An hour on, and whether that is midnight.
     fn next_hour(&mut self) -> bool {
-        self.hours = match (self.mode24, self.hours) {
-            (true, 23) => 0,
-            (false, 12) => 1,
-            (_, hours) => hours.wrapping_add(1),
-        };
-        if self.mode24 {
-            return self.hours == 0;
+        self.hour = self.hour.next();
+        self.hour.is_midnight()
+    }
+}
+
+impl Plain<15> for Mm58274c {
+    fn step(&mut self) {
+        if count_all(&mut self.low) && self.next_hour() {
+            let february = if self.leap.value == 0 { 29 } else { 28 };
+            if self.calendar.next_day(february) {
+                self.leap.count();
+                self.year.count();
+            }
         }
-        if self.hours == 12 {
-            self.pm = !self.pm;
-        }
-        self.hours == 12 && !self.pm
     }
 
-    pub(crate) fn face(&self) -> [u8; 15] {
+    fn face(&self) -> [u8; 15] {
         let [tenths, seconds, minutes] = self.low;
+        let hour = self.hour.value();
         let calendar = self.calendar;
-        let setting = [
-            calendar.leap.value & 3,
-            u8::from(self.pm),
-            u8::from(self.mode24),
-        ];
         [
             tenths.value,
-            units(seconds),
-            tens(seconds),
-            units(minutes),
-            tens(minutes),
-            self.hours % 10,
-            self.hours / 10,
+            seconds.units(),
+            seconds.tens(),
+            minutes.units(),
+            minutes.tens(),
+            hour % 10,
+            hour / 10,
             calendar.day % 10,
             calendar.day / 10,
-            units(calendar.month),
-            tens(calendar.month),
-            units(calendar.year),
-            tens(calendar.year),
+            calendar.month.units(),
+            calendar.month.tens(),
+            self.year.units(),
+            self.year.tens(),
             calendar.weekday.value,
-            (setting[0] << 2) | (setting[1] << 1) | setting[2],
+            (self.leap.value << 2) | self.hour.setting(),
         ]
     }
 }
 
-// An MM58167B: milliseconds, hundredths, seconds, minutes and hours, then the calendar.
+// An MM58167B: milliseconds, hundredths, seconds, minutes and hours, then the calendar, with no leap years.
 #[derive(Clone, Copy)]
 pub(crate) struct Mm58167b {
-    pub low: [Counter; 5],
-    pub calendar: Calendar,
+    low: [Counter; 5],
+    calendar: Calendar,
 }
 
 impl Mm58167b {
-    pub(crate) fn step(&mut self) {
+    // A millisecond before midnight.
+    pub(crate) fn at_the_end_of(date: Date) -> Mm58167b {
+        Mm58167b {
+            low: [
+                Counter::from_zero(9, 9),
+                Counter::from_zero(99, 99),
+                Counter::from_zero(59, 59),
+                Counter::from_zero(59, 59),
+                Counter::from_zero(23, 23),
+            ],
+            calendar: Calendar::on(date),
+        }
+    }
+}
+
+impl Plain<14> for Mm58167b {
+    fn step(&mut self) {
         if count_all(&mut self.low) {
-            self.calendar.next_day();
+            self.calendar.next_day(28);
         }
     }
 
-    pub(crate) fn face(&self) -> [u8; 14] {
+    fn face(&self) -> [u8; 14] {
         let [milliseconds, hundredths, seconds, minutes, hours] = self.low;
         let calendar = self.calendar;
         [
             milliseconds.value,
-            units(hundredths),
-            tens(hundredths),
-            units(seconds),
-            tens(seconds),
-            units(minutes),
-            tens(minutes),
-            units(hours),
-            tens(hours),
+            hundredths.units(),
+            hundredths.tens(),
+            seconds.units(),
+            seconds.tens(),
+            minutes.units(),
+            minutes.tens(),
+            hours.units(),
+            hours.tens(),
             calendar.weekday.value,
             calendar.day % 10,
             calendar.day / 10,
-            units(calendar.month),
-            tens(calendar.month),
+            calendar.month.units(),
+            calendar.month.tens(),
         ]
     }
 }

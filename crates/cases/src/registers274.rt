@@ -1,6 +1,7 @@
 // The MM58274C by bus accesses.
-use crate::acts::{Act, first_wrong};
+use crate::acts::{Act, perform};
 use chips::chip::Chip;
+use chips::refusal::Refusal;
 use mm58274c::chip::Mm58274c;
 
 // 28 February 84, 23:59:59, day of week 3, in 24-hour mode, leap count 0; and started.
@@ -26,43 +27,40 @@ const NIGHT: [Act; 15] = [
 fn made_stopped_and_zero(rt: HostRuntime) {
     let mut chip = Mm58274c::new();
     for address in 0..16 {
-        assert_eq!(rt; chip.read(address).ok(), Some(0));
+        assert_eq!(rt; chip.read(address), Ok(0));
     }
-    assert_eq!(rt;
-        first_wrong(
-            &mut chip,
-            &[Act::Wait(1 << 40, 0), Act::Read(0, 0), Act::Take(false)],
-        ),
-        None
-    );
+    let acts = [Act::Wait(1 << 40, 0), Act::Read(0, 0), Act::Take(false)];
+    assert_eq!(rt; perform(&mut chip, &acts), Ok(()));
 }
 
-fn registers(chip: &mut Mm58274c) -> [u8; 16] {
-    let mut registers = [0u8; 16];
-    for address in 1..16 {
-        registers[address] = chip.read(address as u64).unwrap_or(255);
+// Each register at its address, without the control register, which a read changes.
+fn registers(chip: &mut Mm58274c) -> Result<[u8; 16], Refusal> {
+    let mut registers = [0; 16];
+    for (address, register) in (0..).zip(registers.iter_mut()).skip(1) {
+        *register = chip.read(address)?;
     }
-    registers
+    Ok(registers)
 }
 
 // Whether a written value is kept, cut to its active bits, and no other register changes.
-fn keeps(chip: &mut Mm58274c, address: usize, value: u8, mask: u8) -> bool {
-    let mut expected = registers(chip);
-    if address < 16 {
-        expected[address] = value & mask;
+fn keeps(chip: &mut Mm58274c, address: usize, value: u8, mask: u8) -> Result<bool, Refusal> {
+    let mut expected = registers(chip)?;
+    if let Some(register) = expected.get_mut(address) {
+        *register = value & mask;
     }
-    chip.write(address as u64, u64::from(value)).is_ok() && registers(chip) == expected
+    chip.write(address as u64, u64::from(value))?;
+    Ok(registers(chip)? == expected)
 }
 
 #[test]
 fn active_bits(rt: HostRuntime) {
     for (setting, hours) in [(1, 3), (0, 1), (2, 1)] {
         let mut chip = Mm58274c::new();
-        assert!(rt; chip.write(15, setting).is_ok());
+        assert_eq!(rt; chip.write(15, setting), Ok(()));
         let masks = [15, 7, 15, 7, 15, hours, 15, 3, 15, 1, 15, 15, 7];
-        for (place, mask) in masks.iter().enumerate() {
+        for (address, mask) in (2..).zip(masks) {
             for value in [15, 0, 10, 5, 7, 8, 15] {
-                assert!(rt; keeps(&mut chip, place + 2, value, *mask));
+                assert_eq!(rt; keeps(&mut chip, address, value, mask), Ok(true));
             }
         }
     }
@@ -82,9 +80,9 @@ fn hour_22_switched_to_12_hour_mode_reads_02(rt: HostRuntime) {
         Act::Write(15, 1),
         Act::Read(7, 0),
     ];
-    assert_eq!(rt; first_wrong(&mut chip, &acts), None);
+    assert_eq!(rt; perform(&mut chip, &acts), Ok(()));
     let mut running = Mm58274c::new();
-    assert_eq!(rt; first_wrong(&mut running, &NIGHT), None);
+    assert_eq!(rt; perform(&mut running, &NIGHT), Ok(()));
     let acts = [
         Act::Write(6, 2),
         Act::Write(15, 2),
@@ -92,7 +90,7 @@ fn hour_22_switched_to_12_hour_mode_reads_02(rt: HostRuntime) {
         Act::Read(7, 0),
         Act::Read(15, 2),
     ];
-    assert_eq!(rt; first_wrong(&mut running, &acts), None);
+    assert_eq!(rt; perform(&mut running, &acts), Ok(()));
 }
 
 #[test]
@@ -100,7 +98,7 @@ fn pm_is_stored_as_0_in_24_hour_mode(rt: HostRuntime) {
     let mut chip = Mm58274c::new();
     for (written, read) in [(3, 1), (15, 13), (2, 2), (14, 14), (7, 5)] {
         let acts = [Act::Write(15, written), Act::Read(15, read)];
-        assert_eq!(rt; first_wrong(&mut chip, &acts), None);
+        assert_eq!(rt; perform(&mut chip, &acts), Ok(()));
     }
 }
 
@@ -126,14 +124,14 @@ fn refusals_come_in_order(rt: HostRuntime) {
         Act::Write(14, 8),
         Act::Read(14, 0),
     ];
-    assert_eq!(rt; first_wrong(&mut chip, &acts), None);
+    assert_eq!(rt; perform(&mut chip, &acts), Ok(()));
 }
 
 // A running chip takes no month 0 and no second 70, and is left as it was.
 #[test]
 fn a_running_chip_stays_lawful(rt: HostRuntime) {
     let mut chip = Mm58274c::new();
-    assert_eq!(rt; first_wrong(&mut chip, &NIGHT), None);
+    assert_eq!(rt; perform(&mut chip, &NIGHT), Ok(()));
     let acts = [
         Act::NoWrite(10, 0, 7),
         Act::NoWrite(3, 7, 7),
@@ -151,13 +149,13 @@ fn a_running_chip_stays_lawful(rt: HostRuntime) {
         Act::Write(8, 8),
         Act::Write(0, 0),
     ];
-    assert_eq!(rt; first_wrong(&mut chip, &acts), None);
+    assert_eq!(rt; perform(&mut chip, &acts), Ok(()));
 }
 
 #[test]
 fn midnight_by_the_bus(rt: HostRuntime) {
     let mut chip = Mm58274c::new();
-    assert_eq!(rt; first_wrong(&mut chip, &NIGHT), None);
+    assert_eq!(rt; perform(&mut chip, &NIGHT), Ok(()));
     let acts = [
         Act::Wait(3_275, 0),
         Act::Wait(1, 1),
@@ -169,14 +167,14 @@ fn midnight_by_the_bus(rt: HostRuntime) {
         Act::Digit(7, 9),
         Act::Digit(14, 1),
     ];
-    assert_eq!(rt; first_wrong(&mut chip, &acts), None);
+    assert_eq!(rt; perform(&mut chip, &acts), Ok(()));
 }
 
 // The data-changed flag is bit 3: a step sets it, a read clears it, and a write leaves it.
 #[test]
 fn the_data_changed_flag(rt: HostRuntime) {
     let mut chip = Mm58274c::new();
-    assert_eq!(rt; first_wrong(&mut chip, &NIGHT), None);
+    assert_eq!(rt; perform(&mut chip, &NIGHT), Ok(()));
     let acts = [
         Act::Read(0, 0),
         Act::Wait(3_276, 1),
@@ -188,13 +186,13 @@ fn the_data_changed_flag(rt: HostRuntime) {
         Act::Wait(1 << 20, 0),
         Act::Read(0, 0),
     ];
-    assert_eq!(rt; first_wrong(&mut chip, &acts), None);
+    assert_eq!(rt; perform(&mut chip, &acts), Ok(()));
 }
 
 #[test]
 fn a_stop_zeroes_tenths_and_divider(rt: HostRuntime) {
     let mut chip = Mm58274c::new();
-    assert_eq!(rt; first_wrong(&mut chip, &NIGHT), None);
+    assert_eq!(rt; perform(&mut chip, &NIGHT), Ok(()));
     let acts = [
         Act::Wait(3 * 3_277, 3),
         Act::Read(1, 3),
@@ -205,14 +203,14 @@ fn a_stop_zeroes_tenths_and_divider(rt: HostRuntime) {
         Act::Wait(3_275, 0),
         Act::Wait(1, 1),
     ];
-    assert_eq!(rt; first_wrong(&mut chip, &acts), None);
+    assert_eq!(rt; perform(&mut chip, &acts), Ok(()));
 }
 
 // Armed, a step is noticed; a plain read of the control register leaves the chip unarmed.
 #[test]
 fn arms_and_settles(rt: HostRuntime) {
     let mut chip = Mm58274c::new();
-    assert_eq!(rt; first_wrong(&mut chip, &NIGHT), None);
+    assert_eq!(rt; perform(&mut chip, &NIGHT), Ok(()));
     let acts = [
         Act::Arm,
         Act::Wait(3_275, 0),
@@ -225,5 +223,5 @@ fn arms_and_settles(rt: HostRuntime) {
         Act::Read(0, 8),
         Act::Settle(true),
     ];
-    assert_eq!(rt; first_wrong(&mut chip, &acts), None);
+    assert_eq!(rt; perform(&mut chip, &acts), Ok(()));
 }
