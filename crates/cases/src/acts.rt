@@ -31,7 +31,7 @@ pub(crate) struct WrongAt(usize);
 
 // The number of the refusal; none where the answer is no refusal.
 fn refused<T: Drop>(answer: Result<T, Refusal>) -> Option<u8> {
-    answer.err().map(Refusal::number)
+    answer.err().map(u8::from)
 }
 
 fn is_right<C: Chip>(chip: &mut C, act: Act) -> bool {

@@ -1,8 +1,12 @@
 // Faces counted in one go against single steps.
+ghost use Rattle.std.specs.Prelude.{◌≤◌};
+
 use crate::plain::{Date, Hour, Mm58167b, Mm58274c, Plain, Year};
 use crate::worked::steps_on;
+use clock::calendar::Calendar;
 use clock::mm58167b::Running as Running167;
 use clock::mm58274c::Running as Running274;
+use clock::ticking::Ticking;
 use std::alloc::{AllocError, Global};
 use std::test::Fail;
 
@@ -39,18 +43,10 @@ const HOURS: [Hour; 9] = [
 ];
 
 // Whether n steps in one go are n single steps; None where the face is not lawful.
-fn agrees274(start: &Mm58274c, n: u32) -> Option<bool> {
-    let mut counters = Running274::from_face(&start.face())?;
-    counters.advance(u64::from(n));
-    let mut plain = *start;
-    for _ in 0..n {
-        plain.step();
-    }
-    Some(counters.face() == plain.face())
-}
-
-fn agrees167(start: &Mm58167b, n: u32) -> Option<bool> {
-    let mut counters = Running167::from_face(&start.face())?;
+fn agrees<C: Calendar<N>, P: Plain<N>, const N: usize>(start: &P, n: u32) -> Option<bool>
+    requires { N ≤ 15 }
+{
+    let mut counters = C::from_face(&start.face())?;
     counters.advance(u64::from(n));
     let mut plain = *start;
     for _ in 0..n {
@@ -79,7 +75,7 @@ fn leap_days_year_ends_noon_and_midnight_by_tenths(rt: HostRuntime) -> Result<()
     for n in [0, 1, 2, 601, 36_001] {
         let lawful: Vec<bool> = starts
             .iter()
-            .filter_map(|start| agrees274(start, n))
+            .filter_map(|start| agrees::<Running274, _, 15>(start, n))
             .collect(rt.alloc())?;
         assert_eq!(rt; lawful.len(), 333);
         assert!(rt; lawful.iter().all(|agrees| *agrees));
@@ -92,7 +88,7 @@ fn forty_days_by_tenths(rt: HostRuntime) {
     for date in [Date { day: 28, month: 2 }, Date { day: 31, month: 12 }] {
         for year in [Year { leap: 0, year: 84 }, Year { leap: 3, year: 99 }] {
             let start = Mm58274c::at_the_end_of(Hour::Pm(11), date, year);
-            assert_eq!(rt; agrees274(&start, 34_560_000), Some(true));
+            assert_eq!(rt; agrees::<Running274, _, 15>(&start, 34_560_000), Some(true));
         }
     }
 }
@@ -102,11 +98,28 @@ fn month_ends_and_midnight_by_milliseconds(rt: HostRuntime) -> Result<(), Fail> 
     let mut lawful = Vec::new(rt.alloc());
     for date in DATES {
         for n in [0, 1, 2, 1_001, 3_600_001] {
-            lawful.extend(agrees167(&Mm58167b::at_the_end_of(date), n))?;
+            lawful.extend(agrees::<Running167, _, 14>(&Mm58167b::at_the_end_of(date), n))?;
         }
     }
     assert_eq!(rt; lawful.len(), 35);
     assert!(rt; lawful.iter().all(|agrees| *agrees));
+    Ok(())
+}
+
+// 3,276 cycles make the first tenth, and of the rest of a period four more are counted.
+#[test]
+fn a_clone_of_a_running_clock_counts_on_as_it_does(rt: HostRuntime) -> Result<(), Fail> {
+    let new_year = Date { day: 31, month: 12 };
+    let start = Mm58274c::at_the_end_of(Hour::Pm(11), new_year, Year { leap: 3, year: 99 });
+    let counters = Running274::from_face(&start.face()).ok_or("unlawful")?;
+    let mut clock = Ticking::started(counters);
+    assert_eq!(rt; clock.wait(3_276), 1);
+    let mut clone = clock.clone()?;
+    assert_eq!(rt; clone.held, 3_276);
+    assert_eq!(rt; clone.counters.face(), clock.counters.face());
+    assert_eq!(rt; clone.wait(16_384 - 3_276), 4);
+    assert_eq!(rt; clone.held, 0);
+    assert_eq!(rt; clock.held, 3_276);
     Ok(())
 }
 

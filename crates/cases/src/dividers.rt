@@ -1,5 +1,7 @@
 // Dividers against one that takes cycle by cycle.
+use clock::calendar::Calendar;
 use clock::divider::Divider;
+use clock::mm58274c::Running;
 
 // Of every `m` cycles it drops the last `d`, and it divides the rest by `k`.
 #[derive(Clone, Copy)]
@@ -112,7 +114,7 @@ fn periods(rt: HostRuntime) {
 // A sum of held and waited cycles past 64 bits is no trouble.
 #[test]
 fn longest_wait(rt: HostRuntime) {
-    let waited = Divider::tenths().wait(u64::MAX, u64::MAX);
+    let waited = Running::divider().wait(u64::MAX, u64::MAX);
     assert_eq!(rt; waited.held, 16_382);
     assert_eq!(rt; waited.steps, 5_629_499_534_213_119);
 }

@@ -1,18 +1,18 @@
 // The worked cases, run.
-use clock::divider::Divider;
+use clock::calendar::Calendar;
 use clock::mm58167b::Running as Running167;
 use clock::mm58274c::Running;
 use clock::worked::worked_cases;
 
 #[test]
 fn cycles_into_steps(rt: HostRuntime) {
-    let tenths = Divider::tenths();
+    let tenths = Running::divider();
     assert_eq!(rt; tenths.counted(3_275), 0);
     assert_eq!(rt; tenths.counted(3_276), 1);
     assert_eq!(rt; tenths.counted(32_768), 10);
     assert_eq!(rt; tenths.period(), 16_384);
     assert_eq!(rt; tenths.counted(16_384), 5);
-    let milliseconds = Divider::milliseconds();
+    let milliseconds = Running167::divider();
     assert_eq!(rt; milliseconds.counted(130), 3);
     assert_eq!(rt; milliseconds.counted(131), 4);
     assert_eq!(rt; milliseconds.counted(32_768), 1_000);
