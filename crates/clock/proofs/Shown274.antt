@@ -1,6 +1,7 @@
 -- What the MM58274C's counters show is lawful, and tells them.
-use Rattle.std.proofs.Common.{◌≡◌, ℕ, sym, refl, ap, ◌∙◌, arith}
+use Rattle.std.proofs.Common.{◌≡◌, sym, refl, ap, ◌∙◌}
 use denote.Struct.Record.{values_one}
+use Rattle.std.proofs.lemmas.Bool.{false≢true, true≢false}
 use Rattle.clock.specs.Mm58274c.{Lawful, read}
 use Rattle.clock.specs.Modes.{is24}
 use Rattle.clock.specs.Registers274.{counters, face}
@@ -25,8 +26,8 @@ face_lawful x = lawful_shown (counters x) (start.running x)
 mode_told : (a b : HourMode) → is24 a ≡ is24 b → a ≡ b
 mode_told Twelve Twelve e = refl
 mode_told TwentyFour TwentyFour e = refl
-mode_told Twelve TwentyFour e = absurd (let z : ◌≡◌ {A = ℕ} 0 1 = cc in omega arith)
-mode_told TwentyFour Twelve e = absurd (let z : ◌≡◌ {A = ℕ} 0 1 = cc in omega arith)
+mode_told Twelve TwentyFour e = absurd (false≢true e)
+mode_told TwentyFour Twelve e = absurd (true≢false e)
 
 date_told : (a b : Date) → a.day ≡ b.day → a.month ≡ b.month → a.leap ≡ b.leap → a.year ≡ b.year → a ≡ b
 date_told a b p q r s = values_one date.struct date.the_propositions a b (λ i. (p i, (q i, (r i, (s i, tt)))))

@@ -1,7 +1,7 @@
 -- The MM58167B keeps the chip rules.
 use Rattle.std.specs.Prelude.{◌≡◌, ℕ, Bool, true, false, not, ◌&&◌, ◌||◌, ◌==◌, nat_lt, slice_index, refl}
 use Rattle.std.proofs.Common.{sym, ap, subst, arith}
-use Rattle.std.proofs.lemmas.Bool.{cond_both}
+use Rattle.std.proofs.lemmas.Bool.{cond_both, true≢false}
 use Rattle.clock.specs.Registers167.{face}
 use Rattle.clock.proofs.Face167.{round_law}
 use Rattle.clock.proofs.Shown167.{face_lawful}
@@ -32,7 +32,7 @@ sound x =
       digits = four_bits_167 (face x.clock.counters) law;
       lawful_while_running = λ _. law;
       held_below_the_period = omega (arith, x.clock.below);
-      none_held_while_stopped = λ e. absurd (let z : ◌≡◌ {A = ℕ} 0 1 = cc in omega arith);
+      none_held_while_stopped = λ e. absurd (true≢false e);
       age_within_the_limit = x.age.young;
       calls_of_32_bits = x.calls.few;
     }

@@ -2,6 +2,7 @@
 use Rattle.std.specs.Prelude.{◌≡◌, ℕ, zero, suc, Bool, true, false, ◌&&◌, ◌||◌, nat_lt, refl}
 use Rattle.std.proofs.Common.{sym, ap, ◌∙◌, arith}
 use Rattle.std.proofs.lemmas.Bool.{lt-ltb}
+use Rattle.std.proofs.Math.Bool.{or-true}
 use Rattle.clock.specs.Mm58167b.{step}
 use Rattle.clock.specs.Times.{times}
 use Rattle.mm58167b.specs.Registers.{Registers, stepped_on, aged, steps_of, waited}
@@ -15,11 +16,7 @@ status_none false false = refl
 status_more : (status seen : Bool) (v : ℕ) → ((status || (seen && nat_lt 0 v)) || seen) ≡ (status || (seen && nat_lt 0 (suc v)))
 status_more true seen v = refl
 status_more false false v = refl
-status_more false true v = or_true (nat_lt 0 v) ∙ sym (lt-ltb 0 (suc v) (omega arith))
-  where
-    or_true : (b : Bool) → (b || true) ≡ true
-    or_true true = refl
-    or_true false = refl
+status_more false true v = or-true (nat_lt 0 v) ∙ sym (lt-ltb 0 (suc v) (omega arith))
 
 -- the registers s after v steps
 abbrev pub after_steps : Registers → ℕ → Registers

@@ -1,6 +1,7 @@
 -- Many steps of the timer at once.
-use Rattle.std.proofs.Common.{◌≡◌, ℕ, zero, suc, ◌+◌, ◌-◌, ◌%◌, ◌<◌, ◌≤◌, Bool, true, false, cond, ◌||◌, eqb, ◌⊎◌, refl, ap, ◌∙◌, inl, inr, mod-lt, mod-eq_of_lt, arith}
+use Rattle.std.proofs.Common.{◌≡◌, ℕ, zero, suc, ◌+◌, ◌-◌, ◌%◌, ◌<◌, ◌≤◌, Bool, true, false, cond, eqb, ◌⊎◌, refl, ap, ◌∙◌, inl, inr, mod-lt, mod-eq_of_lt, arith}
 use native.Mathlib.Nat.{mod_self, suc-mod, zero-mod}
+use Rattle.std.proofs.Math.Bool.{or-false}
 use Rattle.std.proofs.lemmas.Bool.{eq-eqb, ne_eqb, cases_lt}
 use Rattle.clock.specs.Times.{times}
 use Rattle.clock.proofs.FaceLaw.{times_sum}
@@ -8,15 +9,11 @@ use Rattle.mm58274c.specs.declared.timer.Timer.{Timer}
 use Rattle.mm58274c.specs.declared.timer.Timer.TheVariants.{Halted, Once, Again}
 use Rattle.mm58274c.specs.Timer.{delay, tick_and_ring}
 
-or_false : (b : Bool) → (b || false) ≡ b
-or_false true = refl
-or_false false = refl
-
 module _ (register : ℕ) where
   pub halted_stays : (n : ℕ) (rang : Bool) → times n (tick_and_ring register) (Halted, rang) ≡ (Halted, rang)
   unfolding times
   halted_stays zero rang = refl
-  halted_stays (suc n) rang = ap (tick_and_ring register) (halted_stays n rang) ∙ ap (λ b. (Halted, b)) (or_false rang)
+  halted_stays (suc n) rang = ap (tick_and_ring register) (halted_stays n rang) ∙ ap (λ b. (Halted, b)) (or-false rang)
 
   -- a timer that only counts down, however it goes on at its last
   counts_down : (P : ℕ → Timer) → ((l : ℕ) → 2 ≤ l → tick_and_ring register (P l, false) ≡ (P (l - 1), false)) → (n left : ℕ) → n < left → times n (tick_and_ring register) (P left, false) ≡ (P (left - n), false)

@@ -2,6 +2,7 @@
 use Rattle.std.specs.Prelude.{◌≡◌, ℕ, ◌<◌, ◌≤◌, false, length, slice_index, refl}
 use Rattle.std.proofs.Common.{ap, arith}
 use denote.Struct.Record.{values_one}
+use Rattle.std.proofs.lemmas.Bool.{false≢true, true≢false}
 use Rattle.clock.specs.contracts.mm58274c.Running as face
 use Rattle.clock.specs.contracts.mm58274c.calendar.RunningCalendar15.TheImpl.{ghosts}
 use Rattle.clock.specs.Divider.{period, tenths}
@@ -33,7 +34,7 @@ pub time_sound : (c : Counters) → TimeSound (time c)
 time_sound (Stopped digits) = record {
   long = digits.long;
   small = digits.small;
-  lawful = λ e. absurd (let z : ◌≡◌ {A = ℕ} 0 1 = cc in omega arith);
+  lawful = λ e. absurd (false≢true e);
   below = period_some tenths (record { some_pass = omega arith; some_count = omega arith });
   none_held = λ _. refl;
 }
@@ -44,15 +45,15 @@ time_sound (Running clock) =
       small = four_bits_274 _ law;
       lawful = λ _. law;
       below = clock.below;
-      none_held = λ e. absurd (let z : ◌≡◌ {A = ℕ} 0 1 = cc in omega arith);
+      none_held = λ e. absurd (true≢false e);
     }
 
 counters_told : (a b : Counters) → time a ≡ time b → a ≡ b
 counters_told (Stopped a) (Stopped b) e = ap Stopped (digits_told 15 a b (ap (λ t. t.digits) e))
 counters_told (Running a) (Running b) e =
     ap Running (ticking_told face.the_row 15 ghosts a b (told_by_face a.counters b.counters (ap (λ t. t.digits) e)) (ap (λ t. t.held) e))
-counters_told (Stopped a) (Running b) e = absurd (let r = ap (λ t. t.running) e in let z : ◌≡◌ {A = ℕ} 0 1 = cc in omega arith)
-counters_told (Running a) (Stopped b) e = absurd (let r = ap (λ t. t.running) e in let z : ◌≡◌ {A = ℕ} 0 1 = cc in omega arith)
+counters_told (Stopped a) (Running b) e = absurd (false≢true (ap (λ t. t.running) e))
+counters_told (Running a) (Stopped b) e = absurd (true≢false (ap (λ t. t.running) e))
 
 pub registers_tell : (x y : Mm58274c) → registers x ≡ registers y → x ≡ y
 registers_tell x y e =

@@ -2,23 +2,16 @@
 use Rattle.std.specs.Prelude.{◌≡◌, ℕ, zero, suc, Bool, true, false, ◌||◌, nat_lt, refl}
 use Rattle.std.proofs.Common.{sym, ap, ◌∙◌, arith}
 use Rattle.std.proofs.lemmas.Bool.{lt-ltb}
+use Rattle.std.proofs.Math.Bool.{or-false, or_assoc}
 use Rattle.clock.specs.Mm58274c.{step}
 use Rattle.clock.specs.Times.{times}
 use Rattle.mm58274c.specs.declared.timer.Timer.{Timer}
 use Rattle.mm58274c.specs.Timer.{tick_and_ring}
 use Rattle.mm58274c.specs.Registers.{Registers, stepped_on, aged, steps_of, waited}
 
-or_false : (b : Bool) → b ≡ (b || false)
-or_false true = refl
-or_false false = refl
-
 or_some : (b : Bool) (v : ℕ) → true ≡ (b || nat_lt 0 (suc v))
 or_some true v = refl
 or_some false v = sym (lt-ltb 0 (suc v) (omega arith))
-
-or_or : (a b c : Bool) → ((a || b) || c) ≡ (a || (b || c))
-or_or true b c = refl
-or_or false b c = refl
 
 -- the registers s after v steps, in which the timer comes to t and to a last step or not
 abbrev pub after_steps : Registers → ℕ → Timer × Bool → Registers
@@ -40,7 +33,7 @@ many_steps zero s = λ i. record {
   select = s.select;
   interrupt = s.interrupt;
   timer = s.timer;
-  flags = record { changed = or_false s.flags.changed i; rang = or_false s.flags.rang i; kept = s.flags.kept };
+  flags = record { changed = sym (or-false s.flags.changed) i; rang = sym (or-false s.flags.rang) i; kept = s.flags.kept };
   armed = s.armed;
   age = s.age;
   calls = s.calls;
@@ -55,7 +48,7 @@ many_steps (suc v) s =
       timer = (tick_and_ring s.interrupt p).0;
       flags = record {
         changed = or_some s.flags.changed v i;
-        rang = or_or s.flags.rang p.1 (tick_and_ring s.interrupt (p.0, false)).1 i;
+        rang = or_assoc s.flags.rang p.1 (tick_and_ring s.interrupt (p.0, false)).1 i;
         kept = s.flags.kept;
       };
       armed = s.armed;

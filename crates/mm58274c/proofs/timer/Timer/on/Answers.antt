@@ -1,4 +1,5 @@
 use Rattle.std.proofs.Common.{◌≡◌, ℕ, ◌-◌, ◌%◌, ◌<◌, ◌≤◌, true, false, sym, refl, ap, ◌∙◌, subst, mod-lt, arith}
+use Rattle.std.proofs.lemmas.Bool.{false≢true}
 use Rattle.clock.specs.Times.{times}
 use Rattle.mm58274c.specs.declared.timer.Timer.{Timer}
 use Rattle.mm58274c.specs.declared.timer.Timer.TheVariants.{Halted, Once, Again}
@@ -16,7 +17,7 @@ returns-in-Halted-Steps c =
     let w = c.in-Halted-Steps in
     record {
       after = sym (steps c.args.register w.field-0-1 Halted c.args.self c.args.event w.is-0 w.is-1 ∙ halted_stays c.args.register w.field-0-1 false);
-      timed = (λ e. absurd (let z : ◌≡◌ {A = ℕ} 0 1 = cc in omega arith), omega arith);
+      timed = (λ e. absurd (false≢true e), omega arith);
     }
 
 pub returns-in-Once-Steps : goal.returns-in-Once-Steps
@@ -34,7 +35,7 @@ returns-in-Once-Steps-2 c =
     let k : Timed c.args.register (Once w.left) = subst (Timed c.args.register) w.is-0 c.requires in
     record {
       after = sym (steps c.args.register w.n (Once w.left) c.args.self c.args.event w.is-0 w.is-1 ∙ once_ends c.args.register w.n w.left (k.0 refl) c.if-n-left.false);
-      timed = (λ e. absurd (let z : ◌≡◌ {A = ℕ} 0 1 = cc in omega arith), omega arith);
+      timed = (λ e. absurd (false≢true e), omega arith);
     }
 
 pub returns-in-Again-Steps : goal.returns-in-Again-Steps
