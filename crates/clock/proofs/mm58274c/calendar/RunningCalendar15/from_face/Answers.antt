@@ -2,11 +2,8 @@ use Rattle.std.proofs.Common.{◌≡◌, length, ap, ◌∙◌, arith}
 use Rattle.clock.specs.Modes.{is24}
 use Rattle.clock.specs.Registers274.{face}
 use Rattle.clock.specs.declared.mm58274c.Running.{Running}
-use Rattle.clock.proofs.Start274.{no_date, started}
+use Rattle.clock.proofs.Start274.{started}
 use Rattle.clock.proofs.mm58274c.calendar.RunningCalendar15.from_face.Goals as goal
-
-pub returns-in_err-date : goal.returns-in_err-date
-returns-in_err-date c = rw c.from_residual-in_err-date.ensures (no_date c.args.digits.now c.from-setting.result.leap c.from-setting.ensures.0 c.in_err-date.ensures)
 
 pub returns : goal.returns
 unfolding face

@@ -1,8 +1,0 @@
-use Rattle.std.proofs.Common.{refl, inl}
-use Rattle.std.proofs.lemmas.Result.{err_from_is_err_and}
-use Rattle.mm58274c.proofs.chip.Mm58274c.hold.Goals as goal
-
-pub returns-in_err-self : goal.returns-in_err-self
-returns-in_err-self c =
-    let p = err_from_is_err_and c.from_residual.result c.from_residual.ensures.1 in
-    rw (p.1, p.2) (inl c.in_err-self.ensures, refl)
