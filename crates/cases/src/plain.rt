@@ -53,12 +53,7 @@ impl Counter {
 
 // Each counter moves when all below it have rolled over; whether the last one has.
 fn count_all(counters: &mut [Counter]) -> bool {
-    for counter in counters.iter_mut() {
-        if !counter.count() {
-            return false;
-        }
-    }
-    true
+    counters.iter_mut().all(Counter::count)
 }
 
 #[derive(Clone, Copy)]

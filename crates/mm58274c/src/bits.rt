@@ -3,6 +3,7 @@ ghost use Rattle.std.specs.Prelude.{◌≡◌, ◌≤◌};
 ghost use Rattle.clock.specs.Modes.{is24};
 ghost use Rattle.mm58274c.specs.Bits.{bit, cut, active_bits, stored_setting};
 
+use crate::nibble::Nibble;
 use clock::mode::HourMode;
 
 // Bit `place` of a register of four bits.
@@ -41,12 +42,13 @@ pub(crate) fn active(column: usize, mode: HourMode) -> u8
 }
 
 // The setting register as it is stored: in 24-hour mode PM is 0.
-pub(crate) fn stored(setting: u8) -> u8
-    requires { setting ≤ 15 }
-    ensures { (result ≡ stored_setting setting) × (result ≤ 15) }
+pub(crate) fn stored(setting: Nibble) -> Nibble
+    ensures { result.value ≡ stored_setting setting.value }
 {
-    if setting & 1 == 1 {
-        ((setting >> 2) << 2) | 1
+    if has_bit(setting.value, 0) {
+        Nibble {
+            value: ((setting.value >> 2) << 2) | 1,
+        }
     } else {
         setting
     }

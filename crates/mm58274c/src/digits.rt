@@ -1,8 +1,9 @@
 // What a write makes of the digits.
-ghost use Rattle.std.specs.Prelude.{◌≡◌, ◌≤◌};
+ghost use Rattle.std.specs.Prelude.{◌≡◌};
 ghost use Rattle.mm58274c.specs.Registers.{setting_written, digit_written};
 
 use crate::bits::{active, has_bit, low_bits, stored};
+use crate::nibble::Nibble;
 use crate::register::Column;
 use chips::digits::Digits;
 use clock::mode::HourMode;
@@ -12,21 +13,20 @@ const TENS_OF_HOURS: usize = 6;
 
 const SETTING: usize = 14;
 
-pub(crate) fn with_setting(digits: Digits<15>, value: u8) -> Digits<15>
-    requires { value ≤ 15 }
-    ensures { result.columns ≡ setting_written digits.columns value }
+pub(crate) fn with_setting(digits: Digits<15>, setting: Nibble) -> Digits<15>
+    ensures { result.columns ≡ setting_written digits.columns setting.value }
 {
-    let bits = active(TENS_OF_HOURS, HourMode::from(has_bit(value, 0)));
+    let bits = active(TENS_OF_HOURS, HourMode::from(has_bit(setting.value, 0)));
     let tens = low_bits(digits.columns[TENS_OF_HOURS], bits);
     digits
-        .with(SETTING, stored(value))
+        .with(SETTING, stored(setting).value)
         .with(TENS_OF_HOURS, tens)
 }
 
-pub(crate) fn with_digit(digits: Digits<15>, column: Column, value: u8) -> Digits<15>
-    ensures { result.columns ≡ digit_written digits.columns column.index value }
+pub(crate) fn with_digit(digits: Digits<15>, column: Column, digit: Nibble) -> Digits<15>
+    ensures { result.columns ≡ digit_written digits.columns column.index digit.value }
 {
     let mode = HourMode::from(has_bit(digits.columns[SETTING], 0));
     let bits = active(column.index, mode);
-    digits.with(column.index, low_bits(value, bits))
+    digits.with(column.index, low_bits(digit.value, bits))
 }

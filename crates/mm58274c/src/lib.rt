@@ -7,5 +7,6 @@ mod control;
 mod counters;
 mod digits;
 mod flags;
+mod nibble;
 mod register;
 mod timer;

@@ -8,9 +8,9 @@ ghost use Rattle.chips.proofs.Behaving.{rules as keep_rules, determined};
 ghost use Rattle.mm58274c.specs.Told.{registers_tell};
 
 use crate::chip::Mm58274c;
-use crate::chip::write::nibble;
 use crate::control::Control;
 use crate::digits::{with_digit, with_setting};
+use crate::nibble::Nibble;
 use crate::register::Register;
 use crate::timer::Event;
 use chips::ask::Waited;
@@ -98,14 +98,18 @@ impl Chip for Mm58274c {
     fn write(&mut self, address: u64, value: u64) -> Result<(), Refusal> {
         let digits = self.counters.digits();
         match Register::try_from(address)? {
-            Register::Control => self.write_control(Control::try_from(nibble(value)?)?),
+            Register::Control => self.write_control(Control::try_from(Nibble::try_from(value)?)?),
             Register::Tenths => Err(Refusal::NotWritable),
-            Register::Digit(column) => self.hold(with_digit(digits, column, nibble(value)?)),
+            Register::Digit(column) => self.hold(with_digit(
+                digits,
+                column,
+                Nibble::try_from(value)?,
+            )),
             Register::Selected if self.select => {
-                self.load_interrupt(nibble(value)?);
+                self.load_interrupt(Nibble::try_from(value)?);
                 Ok(())
             }
-            Register::Selected => self.hold(with_setting(digits, nibble(value)?)),
+            Register::Selected => self.hold(with_setting(digits, Nibble::try_from(value)?)),
         }
     }
 }

@@ -1,24 +1,14 @@
 // Writes, once it is known for which register.
-ghost use Rattle.std.specs.Prelude.{◌≡◌, ◌≤◌, MatchResult};
-ghost use Rattle.chips.specs.declared.refusal.Refusal.TheVariants.{TooWide};
+ghost use Rattle.std.specs.Prelude.{◌≡◌};
 ghost use Rattle.mm58274c.specs.Registers.{controlled, interrupt_written, with_digits};
 ghost use Rattle.mm58274c.specs.View.{Lands, registers};
 
 use crate::chip::Mm58274c;
 use crate::control::Control;
+use crate::nibble::Nibble;
 use crate::timer::Event;
 use chips::digits::Digits;
 use chips::refusal::Refusal;
-
-// A value as the four bits of the bus.
-pub(super) fn nibble(value: u64) -> Result<u8, Refusal>
-    ensures { MatchResult result (λ n. (n ≡ value) × (value ≤ 15)) (λ e. (e ≡ TooWide) × (value ≤ 15 → ⊥)) }
-{
-    match value {
-        0..=15 => Ok(value as u8),
-        _ => Err(Refusal::TooWide),
-    }
-}
 
 impl Mm58274c {
     pub(super) fn write_control(&mut self, control: Control) -> Result<(), Refusal>
@@ -41,11 +31,11 @@ impl Mm58274c {
         Ok(())
     }
 
-    pub(super) fn load_interrupt(&mut self, value: u8)
-        ensures { registers self.new ≡ interrupt_written (registers self.old) value }
+    pub(super) fn load_interrupt(&mut self, nibble: Nibble)
+        ensures { registers self.new ≡ interrupt_written (registers self.old) nibble.value }
     {
         let (timer, _) = self.timer.on(Event::Load, self.interrupt);
-        self.interrupt = value;
+        self.interrupt = nibble.value;
         self.timer = timer;
     }
 

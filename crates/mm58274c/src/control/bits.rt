@@ -3,24 +3,25 @@ ghost use Rattle.std.specs.Prelude.{◌≡◌, true, false, MatchResult};
 
 use crate::bits::has_bit;
 use crate::control::Control;
+use crate::nibble::Nibble;
 use chips::refusal::Refusal;
 
-impl TryFrom<u8> for Control {
+impl TryFrom<Nibble> for Control {
     type Error = Refusal;
 
     ghost use Rattle.chips.specs.declared.refusal.Refusal.TheVariants.{TestBit};
     ghost use Rattle.mm58274c.specs.Bits.{bit};
 
-    ghost try_from_gives = { λ value r. MatchResult r (λ c. (c.stop ≡ bit 2 value) × (c.select ≡ bit 1 value) × (c.halt ≡ bit 0 value) × (bit 3 value ≡ false)) (λ refusal. (refusal ≡ TestBit) × (bit 3 value ≡ true)) };
+    ghost try_from_gives = { λ nibble r. MatchResult r (λ c. (c.stop ≡ bit 2 nibble.value) × (c.select ≡ bit 1 nibble.value) × (c.halt ≡ bit 0 nibble.value) × (bit 3 nibble.value ≡ false)) (λ refusal. (refusal ≡ TestBit) × (bit 3 nibble.value ≡ true)) };
 
-    fn try_from(value: u8) -> Result<Control, Refusal> {
-        if has_bit(value, 3) {
+    fn try_from(nibble: Nibble) -> Result<Control, Refusal> {
+        if has_bit(nibble.value, 3) {
             return Err(Refusal::TestBit);
         }
         Ok(Control {
-            stop: has_bit(value, 2),
-            select: has_bit(value, 1),
-            halt: has_bit(value, 0),
+            stop: has_bit(nibble.value, 2),
+            select: has_bit(nibble.value, 1),
+            halt: has_bit(nibble.value, 0),
         })
     }
 }

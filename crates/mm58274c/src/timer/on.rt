@@ -1,7 +1,8 @@
 // What the timer does at each event.
 ghost use Rattle.std.specs.Prelude.{◌≡◌, ◌≤◌};
-ghost use Rattle.mm58274c.specs.Timer.{Timed, delay, repeated, after};
+ghost use Rattle.mm58274c.specs.Timer.{Timed, delay, after};
 
+use crate::bits::has_bit;
 use crate::timer::{Event, Timer};
 
 // The delays in tenths of a second that bits 2 to 0 of the interrupt register choose.
@@ -11,12 +12,6 @@ fn delay_of(register: u8) -> u16
     ensures { (result ≡ delay register) × (result ≤ 600) }
 {
     DELAYS[(register & 7) as usize]
-}
-
-fn is_repeated(register: u8) -> bool
-    ensures { result ≡ repeated register }
-{
-    (register >> 3) & 1 == 1
 }
 
 impl Timer {
@@ -30,7 +25,7 @@ impl Timer {
         match (self, event) {
             (_, Event::Load) | (_, Event::Halt) => (Timer::Halted, false),
             (Timer::Halted, Event::Start) if delay == 0 => (Timer::Halted, false),
-            (Timer::Halted, Event::Start) if is_repeated(register) => (Timer::Again(delay), false),
+            (Timer::Halted, Event::Start) if has_bit(register, 3) => (Timer::Again(delay), false),
             (Timer::Halted, Event::Start) => (Timer::Once(delay), false),
             (counting, Event::Start) => (counting, false),
             (Timer::Halted, Event::Steps(_)) => (Timer::Halted, false),
