@@ -3,7 +3,7 @@ use crate::bus::Bus;
 use clock::divider::SECOND;
 use mm58274c::chip::Mm58274c;
 use std::io;
-use words::Month;
+use words::month::Month;
 
 const DAY: u64 = 24 * 60 * 60 * SECOND;
 // a round of tenths, of which five take 16,384 cycles

@@ -3,7 +3,7 @@ use crate::bus::Bus;
 use clock::divider::SECOND;
 use mm58167b::chip::Mm58167b;
 use std::io;
-use words::Month;
+use words::month::Month;
 
 // the last second of the year, with one day that it has not
 const NIGHT: [(u64, u64, &str); 8] = [

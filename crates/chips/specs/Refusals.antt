@@ -1,5 +1,5 @@
--- Each refusal's number, and the question that it says no to.
-use Rattle.std.specs.Prelude.{ℕ}
+-- Each refusal's number, with the question that it says no to, and its words.
+use Rattle.std.specs.Prelude.{ℕ, List, codes}
 use Rattle.chips.specs.declared.refusal.Refusal.{Refusal}
 use Rattle.chips.specs.declared.refusal.Refusal.TheVariants.{NoAddress, NotWritable, TooWide, TooOld, TestBit, Unlawful, NoColumn}
 
@@ -18,3 +18,12 @@ number TestBit = 6
 number Unlawful = 7
 -- has the face this column?
 number NoColumn = 8
+
+abbrev pub words : Refusal → List ℕ
+words NoAddress = codes "no such address"
+words NotWritable = codes "not writable"
+words TooWide = codes "the value does not fit"
+words TooOld = codes "an age past 2^60 cycles"
+words TestBit = codes "the test bit"
+words Unlawful = codes "it would run with no lawful face"
+words NoColumn = codes "no such column"

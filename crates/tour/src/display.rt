@@ -3,7 +3,7 @@ use clock::date::Date;
 use clock::mm58274c::Running;
 use clock::mode::HourMode;
 use std::fmt;
-use words::Month;
+use words::month::Month;
 
 // A face, one hexadecimal digit a column, lowest first.
 #[derive(Clone, Copy)]

@@ -3,6 +3,8 @@
 
 use std::fmt;
 
+pub mod month;
+
 // A number with a comma before each three digits.
 #[derive(Clone, Copy)]
 pub struct Grouped(pub u64);
@@ -28,29 +30,5 @@ impl fmt::Display for Several<'_> {
         let Several(count, of) = *self;
         let ending = if count == 1 { "" } else { "s" };
         write!(f, "{} {of}{ending}", Grouped(count))
-    }
-}
-
-// The month of this number, from 1 for January on.
-#[derive(Clone, Copy)]
-pub struct Month(pub u8);
-
-impl fmt::Display for Month {
-    fn fmt<W: fmt::Write>(&self, f: &mut fmt::Formatter<W>) -> fmt::Result {
-        f.write_str(match self.0 {
-            1 => "January",
-            2 => "February",
-            3 => "March",
-            4 => "April",
-            5 => "May",
-            6 => "June",
-            7 => "July",
-            8 => "August",
-            9 => "September",
-            10 => "October",
-            11 => "November",
-            12 => "December",
-            _ => "no month",
-        })
     }
 }
