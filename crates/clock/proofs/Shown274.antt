@@ -1,18 +1,18 @@
 -- What the MM58274C's counters show is lawful, and tells them.
-use Rattle.std.proofs.Common.{◌≡◌, sym, refl, ap, ◌∙◌}
+use Rattle.std.proofs.Common.{◌≡◌, sym, ap, ◌∙◌}
 use denote.Struct.Record.{values_one}
 use Rattle.std.proofs.lemmas.Bool.{false≢true, true≢false}
 use Rattle.clock.specs.Mm58274c.{Lawful, read}
-use Rattle.clock.specs.Modes.{is24}
+use Rattle.clock.specs.Hours as hours
 use Rattle.clock.specs.Registers274.{counters, face}
-use Rattle.clock.specs.declared.mode.HourMode.{HourMode}
-use Rattle.clock.specs.declared.mode.HourMode.TheVariants.{Twelve, TwentyFour}
+use Rattle.clock.specs.declared.hour.Hour.{Hour}
+use Rattle.clock.specs.declared.hour.Hour.TheVariants.{Am, Pm, TwentyFour}
 use Rattle.clock.specs.declared.date.Date.{Date}
 use Rattle.clock.specs.declared.hour.HourOfDay.{HourOfDay}
 use Rattle.clock.specs.declared.mm58274c.Running.{Running}
 use Rattle.clock.specs.contracts.date.Date as date
 use Rattle.clock.specs.contracts.hour.HourOfDay as hour
-use Rattle.clock.specs.contracts.mode.HourMode as mode
+use Rattle.clock.specs.contracts.hour.Hour as shown
 use Rattle.clock.specs.contracts.mm58274c.Running as running
 use Rattle.clock.proofs.Face274.{read_shown, lawful_shown}
 use Rattle.clock.proofs.Start274 as start
@@ -23,17 +23,22 @@ face_lawful x = lawful_shown (counters x) (start.running x)
 
 -- ---- counters that show one face are the same
 
-mode_told : (a b : HourMode) → is24 a ≡ is24 b → a ≡ b
-mode_told Twelve Twelve e = refl
-mode_told TwentyFour TwentyFour e = refl
-mode_told Twelve TwentyFour e = absurd (false≢true e)
-mode_told TwentyFour Twelve e = absurd (true≢false e)
+shown_told : (a b : Hour) → hours.hours a ≡ hours.hours b → hours.is_pm a ≡ hours.is_pm b → hours.mode24 a ≡ hours.mode24 b → a ≡ b
+shown_told (Am x) (Am y) p q r = ap Am p
+shown_told (Pm x) (Pm y) p q r = ap Pm p
+shown_told (TwentyFour x) (TwentyFour y) p q r = ap TwentyFour p
+shown_told (Am x) (Pm y) p q r = absurd (false≢true q)
+shown_told (Pm x) (Am y) p q r = absurd (true≢false q)
+shown_told (Am x) (TwentyFour y) p q r = absurd (false≢true r)
+shown_told (TwentyFour x) (Am y) p q r = absurd (true≢false r)
+shown_told (Pm x) (TwentyFour y) p q r = absurd (false≢true r)
+shown_told (TwentyFour x) (Pm y) p q r = absurd (true≢false r)
 
 date_told : (a b : Date) → a.day ≡ b.day → a.month ≡ b.month → a.leap ≡ b.leap → a.year ≡ b.year → a ≡ b
 date_told a b p q r s = values_one date.struct date.the_propositions a b (λ i. (p i, (q i, (r i, (s i, tt)))))
 
-hour_told : (a b : HourOfDay) → a.hours ≡ b.hours → a.pm ≡ b.pm → is24 a.mode ≡ is24 b.mode → a ≡ b
-hour_told a b p q r = values_one hour.struct (hour.the_propositions (mode.the_row).coded) a b (λ i. (p i, (q i, (mode_told a.mode b.mode r i, tt))))
+hour_told : (a b : HourOfDay) → hours.hours a.hour ≡ hours.hours b.hour → hours.is_pm a.hour ≡ hours.is_pm b.hour → hours.mode24 a.hour ≡ hours.mode24 b.hour → a ≡ b
+hour_told a b p q r = let e = shown_told a.hour b.hour p q r in values_one hour.struct (hour.the_propositions (shown.the_row).coded) a b (λ i. (e i, tt))
 
 pub told_by_face : (a b : Running) → face a ≡ face b → a ≡ b
 unfolding face

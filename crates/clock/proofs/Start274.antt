@@ -1,14 +1,21 @@
 -- The MM58274C's counters made from the digits of a face.
-use Rattle.std.proofs.Common.{◌≡◌, ℕ, ◌+◌, ◌*◌, ◌/◌, ◌%◌, ◌<◌, ◌≤◌, eqb, List, length, get_or, take, sym, ap, ◌∙◌, subst, zero-le, arith, lit≤, get_or-take}
+use Rattle.std.proofs.Common.{◌≡◌, ℕ, ◌+◌, ◌*◌, ◌/◌, ◌%◌, ◌<◌, ◌≤◌, false, ◌&&◌, eqb, List, length, get_or, take, sym, refl, ap, ◌∙◌, subst, zero-le, arith, lit≤, get_or-take}
 use Rattle.std.proofs.ByRecursion.{All-get_or}
 use Rattle.clock.specs.Counter.{days_of}
 use Rattle.clock.specs.Mm58274c.{InRange, Lawful, read, shown}
-use Rattle.clock.specs.Modes.{is24}
+use Rattle.clock.specs.Hours as hour
+use Rattle.clock.specs.declared.hour.Hour.{Hour}
+use Rattle.clock.specs.declared.hour.Hour.TheVariants.{Am, Pm, TwentyFour}
 use Rattle.clock.specs.Registers274.{counters, face}
 use Rattle.clock.specs.Start.{DateShown}
 use Rattle.clock.specs.declared.mm58274c.Running.{Running}
 use Rattle.clock.proofs.Faces.{cols, spelled}
 use Rattle.clock.proofs.Face274.{shown_read}
+
+pub no_pm_in_24_hour_mode : (h : Hour) → (hour.mode24 h && hour.is_pm h) ≡ false
+no_pm_in_24_hour_mode (Am h) = refl
+no_pm_in_24_hour_mode (Pm h) = refl
+no_pm_in_24_hour_mode (TwentyFour h) = refl
 
 -- what the type of the running counters says
 pub running : (r : Running) → InRange (counters r)
@@ -16,7 +23,7 @@ running r = record {
   tenths = r.ranges.0;
   seconds = r.ranges.1;
   minutes = r.ranges.2;
-  hours = (r.hour.shown.0, r.hour.shown.1, r.hour.half);
+  hours = (r.hour.shown.0, r.hour.shown.1, no_pm_in_24_hour_mode r.hour.hour);
   weekday = (r.ranges.3, r.ranges.4);
   month = r.date.months;
   day = r.date.days;
@@ -39,9 +46,9 @@ module _ (f : List ℕ) where
     pub tenths : (x.tenths ≡ d 0 + 10 * 0) × (d 0 ≤ 9)
     pub seconds : (x.seconds ≡ d 1 + 10 * d 2) × (d 1 ≤ 9) × (d 2 ≤ 9)
     pub minutes : (x.minutes ≡ d 3 + 10 * d 4) × (d 3 ≤ 9) × (d 4 ≤ 9)
-    pub hours : (x.hour.hours ≡ d 5 + 10 * d 6) × (d 5 ≤ 9) × (d 6 ≤ 9)
-    pub pm : x.hour.pm ≡ eqb (d 14 / 2 % 2) 1
-    pub mode : is24 x.hour.mode ≡ eqb (d 14 % 2) 1
+    pub hours : (hour.hours x.hour.hour ≡ d 5 + 10 * d 6) × (d 5 ≤ 9) × (d 6 ≤ 9)
+    pub pm : hour.is_pm x.hour.hour ≡ eqb (d 14 / 2 % 2) 1
+    pub mode : hour.mode24 x.hour.hour ≡ eqb (d 14 % 2) 1
     pub day : (x.date.day ≡ d 7 + 10 * d 8) × (d 7 ≤ 9) × (d 8 ≤ 9)
     pub month : (x.date.month ≡ d 9 + 10 * d 10) × (d 9 ≤ 9) × (d 10 ≤ 9)
     pub year : (x.date.year ≡ d 11 + 10 * d 12) × (d 11 ≤ 9) × (d 12 ≤ 9)

@@ -9,6 +9,7 @@ pub mod Parts
 pub mod Mm58274c
 pub mod Mm58167b
 pub mod Modes
+pub mod Hours
 pub mod Registers167
 pub mod Registers274
 pub mod Start

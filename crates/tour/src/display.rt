@@ -1,7 +1,7 @@
 // What the clock shows, as an engineer writes it.
 use clock::date::Date;
+use clock::hour::Hour;
 use clock::mm58274c::Running;
-use clock::mode::HourMode;
 use std::fmt;
 use words::month::Month;
 
@@ -42,11 +42,11 @@ impl fmt::Display for TimeOfDay {
             hour,
             ..
         } = self.0;
-        write!(f, "{:02}:{minutes:02}:{seconds:02}.{tenths}", hour.hours)?;
-        match (hour.mode, hour.pm) {
-            (HourMode::TwentyFour, _) => Ok(()),
-            (HourMode::Twelve, false) => f.write_str(" AM"),
-            (HourMode::Twelve, true) => f.write_str(" PM"),
-        }
+        let (hours, half) = match hour.hour {
+            Hour::Am(hours) => (hours, " AM"),
+            Hour::Pm(hours) => (hours, " PM"),
+            Hour::TwentyFour(hours) => (hours, ""),
+        };
+        write!(f, "{hours:02}:{minutes:02}:{seconds:02}.{tenths}{half}")
     }
 }

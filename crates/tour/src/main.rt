@@ -2,13 +2,13 @@
 #![tactic(auto)]
 
 ghost use Rattle.std.specs.Prelude.{◌≡◌, ◌≤◌};
+ghost use Rattle.clock.specs.declared.hour.Hour.TheVariants.{TwentyFour};
 
 use clock::calendar::Calendar;
 use clock::date::Date;
 use clock::divider::SECOND;
-use clock::hour::HourOfDay;
+use clock::hour::{Hour, HourOfDay};
 use clock::mm58274c::Running;
-use clock::mode::HourMode;
 use clock::ticking::Ticking;
 use std::io;
 use words::Several;
@@ -23,13 +23,11 @@ const DAY: u64 = 24 * 60 * 60 * SECOND;
 fn before_midnight(date: Date, weekday: u8) -> Ticking<Running, 15>
     requires { (1 ≤ weekday) × (weekday ≤ 7) }
     ensures held { result.held ≡ 0 }
-    ensures time { (result.counters.tenths ≡ 9) × (result.counters.seconds ≡ 59) × (result.counters.minutes ≡ 59) × (result.counters.hour.hours ≡ 23) }
+    ensures time { (result.counters.tenths ≡ 9) × (result.counters.seconds ≡ 59) × (result.counters.minutes ≡ 59) × (result.counters.hour.hour ≡ TwentyFour 23) }
     ensures date { (result.counters.weekday ≡ weekday) × (result.counters.date ≡ date) }
 {
     let hour = HourOfDay {
-        hours: 23,
-        pm: false,
-        mode: HourMode::TwentyFour,
+        hour: Hour::TwentyFour(23),
     };
     let counters = Running {
         tenths: 9,

@@ -71,8 +71,8 @@ impl Calendar<15> for Running {
     fn face(&self) -> [u8; 15] {
         let setting = Setting {
             leap: self.date.leap,
-            pm: self.hour.pm,
-            mode: self.hour.mode,
+            pm: self.hour.is_pm(),
+            mode: self.hour.mode(),
         };
         [
             self.tenths,
@@ -80,8 +80,8 @@ impl Calendar<15> for Running {
             self.seconds / 10,
             self.minutes % 10,
             self.minutes / 10,
-            self.hour.hours % 10,
-            self.hour.hours / 10,
+            self.hour.hours() % 10,
+            self.hour.hours() / 10,
             self.date.day % 10,
             self.date.day / 10,
             self.date.month % 10,
@@ -103,7 +103,7 @@ impl Calendar<15> for Running {
             tenths,
             seconds,
             minutes,
-            hour: HourOfDay::at(self.hour.mode, hour),
+            hour: HourOfDay::at(self.hour.mode(), hour),
             weekday: weekday + 1,
             date: self.date.later(days),
         };

@@ -1,32 +1,30 @@
 // Counters from the digits of a face, and back.
 ghost use Rattle.std.specs.Prelude.{◌≡◌, MatchOption};
 ghost use Rattle.clock.specs.Mm58274c.{Lawful};
+ghost use Rattle.clock.specs.Hours.{hours, is_pm, mode24};
 ghost use Rattle.clock.specs.Modes.{is24};
 ghost use Rattle.clock.specs.Registers274.{face};
 ghost use Rattle.clock.specs.Start.{number, HourShown, DateShown};
 
 use crate::date::Date;
 use crate::digits::TwoDigits;
-use crate::hour::HourOfDay;
+use crate::hour::{Hour, HourOfDay};
 use crate::mm58274c::Running;
 use crate::mode::HourMode;
 use crate::month::days_of;
 use crate::setting::Setting;
 
 // The hour that its digits show under a mode.
-pub(super) fn hour_shown(hours: TwoDigits, pm: bool, mode: HourMode) -> Option<HourOfDay>
-    ensures { MatchOption result (HourShown hours pm (is24 mode) → ⊥) (λ h. (h.hours ≡ number hours) × (h.pm ≡ pm) × (h.mode ≡ mode) × HourShown hours pm (is24 mode)) }
+pub(super) fn hour_shown(digits: TwoDigits, pm: bool, mode: HourMode) -> Option<HourOfDay>
+    ensures { MatchOption result (HourShown digits pm (is24 mode) → ⊥) (λ h. (hours h.hour ≡ number digits) × (is_pm h.hour ≡ pm) × (mode24 h.hour ≡ is24 mode) × HourShown digits pm (is24 mode)) }
 {
-    let hours = match mode {
-        HourMode::TwentyFour => {
-            if pm {
-                return None;
-            }
-            hours.between(0, 23)?
-        }
-        HourMode::Twelve => hours.between(1, 12)?,
+    let hour = match (mode, pm) {
+        (HourMode::TwentyFour, true) => return None,
+        (HourMode::TwentyFour, false) => Hour::TwentyFour(digits.between(0, 23)?),
+        (HourMode::Twelve, true) => Hour::Pm(digits.between(1, 12)?),
+        (HourMode::Twelve, false) => Hour::Am(digits.between(1, 12)?),
     };
-    Some(HourOfDay { hours, pm, mode })
+    Some(HourOfDay { hour })
 }
 
 // The date that its digits show with a leap count.

@@ -1,9 +1,9 @@
 use Rattle.std.proofs.Common.{◌+◌, ◌/◌, ◌%◌, ap, ◌∙◌, arith}
-use Rattle.clock.specs.Modes.{is24}
+use Rattle.clock.specs.Hours as hour
 use Rattle.clock.specs.Mm58274c.{Counters}
 use Rattle.clock.specs.Registers274.{counters, face}
 use Rattle.clock.proofs.Count274.{counted}
-use Rattle.clock.proofs.Start274.{running}
+use Rattle.clock.proofs.Start274.{no_pm_in_24_hour_mode, running}
 use Rattle.clock.proofs.mm58274c.calendar.RunningCalendar15.advance.Goals as goal
 
 pub returns : goal.returns
@@ -16,9 +16,9 @@ returns c =
       tenths = c.turned-tenths.result.0;
       seconds = c.turned-seconds.result.0;
       minutes = c.turned-minutes.result.0;
-      hours = at.hours;
-      pm = at.pm;
-      mode24 = is24 at.mode;
+      hours = hour.hours at.hour;
+      pm = hour.is_pm at.hour;
+      mode24 = hour.mode24 at.hour;
       weekday = c.turned-weekday.result.0 + 1;
       day = d.day;
       month = d.month;
@@ -35,8 +35,8 @@ returns c =
       minutes = c.turned-minutes.ensures.0;
       into_hours = c.turned-minutes.ensures.1;
       hours = c.at.ensures.0 ∙ c.turned-hour.ensures.0 ∙ ap (λ x. (x + c.turned-minutes.result.1) % 24) mid;
-      mode = ap is24 c.at.ensures.1;
-      fits = (at.shown.0, at.shown.1, at.half);
+      mode = c.at.ensures.1 ∙ c.mode.ensures;
+      fits = (at.shown.0, at.shown.1, no_pm_in_24_hour_mode at.hour);
       into_days = c.turned-hour.ensures.1 ∙ ap (λ x. (x + c.turned-minutes.result.1) / 24) mid;
       weekday = omega arith;
       date = c.later.ensures;

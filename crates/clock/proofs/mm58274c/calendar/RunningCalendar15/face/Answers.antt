@@ -10,4 +10,4 @@ returns c =
     let s = c.args.self.now in
     let k = s.date.years.0 in
     let leap : s.date.leap % 4 ≡ s.date.leap = omega arith in
-    rw (c.from.ensures, leap) (record { shows = search rules; lawful = lawful_shown (counters s) (running s) })
+    rw (c.from.ensures, leap, c.hours.ensures, c.hours-2.ensures, c.is_pm.ensures, c.mode.ensures) (record { shows = search rules; lawful = lawful_shown (counters s) (running s) })

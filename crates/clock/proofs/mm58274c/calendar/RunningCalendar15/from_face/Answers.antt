@@ -1,5 +1,4 @@
-use Rattle.std.proofs.Common.{◌≡◌, length, ap, ◌∙◌, arith}
-use Rattle.clock.specs.Modes.{is24}
+use Rattle.std.proofs.Common.{◌≡◌, length, ◌∙◌, arith}
 use Rattle.clock.specs.Registers274.{face}
 use Rattle.clock.specs.declared.mm58274c.Running.{Running}
 use Rattle.clock.proofs.Start274.{started}
@@ -32,7 +31,7 @@ returns c =
       minutes = (m.0, m.1.0, m.1.1);
       hours = (h.0, h.3.0, h.3.1);
       pm = h.1 ∙ g.1;
-      mode = ap is24 h.2 ∙ g.2;
+      mode = h.2 ∙ g.2;
       day = (e.0, e.4.0.0, e.4.0.1);
       month = (e.1, e.4.1.0, e.4.1.1);
       year = (e.2, e.4.2.0, e.4.2.1);
