@@ -1,6 +1,7 @@
 // A chip on its bus. Each access tells what it came to.
 use crate::refused::Refused;
 use chips::chip::Chip;
+use chips::refusal::Refusal;
 use std::io;
 use words::Several;
 
@@ -16,6 +17,14 @@ impl<C: Chip> Bus<'_, C> {
     pub(crate) fn write(&mut self, address: u64, value: u64, what: &str) -> io::Result<()> {
         let refused = Refused(self.chip.write(address, value).err());
         println!(self.rt; "  write {value} at {address}: {what}{refused}")
+    }
+
+    // Addresses and values, one after the other, each with what it is.
+    pub(crate) fn write_each(&mut self, writes: &[(u64, u64, &str)]) -> io::Result<()> {
+        for (address, value, what) in writes {
+            self.write(*address, *value, what)?;
+        }
+        Ok(())
     }
 
     pub(crate) fn read(&mut self, address: u64, what: &str) -> io::Result<()> {
@@ -48,12 +57,12 @@ impl<C: Chip> Bus<'_, C> {
         println!(self.rt; "  take: {rang}")
     }
 
-    // What the registers at `N` addresses from `first` on hold; none where a read is refused.
-    pub(crate) fn registers<const N: usize>(&mut self, first: u64) -> Option<[u8; N]> {
+    // What the registers at `N` addresses from `first` on hold.
+    pub(crate) fn registers<const N: usize>(&mut self, first: u64) -> Result<[u8; N], Refusal> {
         let mut values = [0; N];
         for (address, value) in (first..).zip(&mut values) {
-            *value = self.chip.read(address).ok()?;
+            *value = self.chip.read(address)?;
         }
-        Some(values)
+        Ok(values)
     }
 }

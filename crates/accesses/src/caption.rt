@@ -1,11 +1,10 @@
 // A caption machine, which takes its time from an MM58274C.
 use crate::bus::Bus;
-use clock::divider::SECOND;
+use clock::divider::{DAY, SECOND};
 use mm58274c::chip::Mm58274c;
 use std::io;
 use words::month::Month;
 
-const DAY: u64 = 24 * 60 * 60 * SECOND;
 // a round of tenths, of which five take 16,384 cycles
 const ROUND: u64 = 220_903_200_000 / 5 * 16_384;
 // the last second of 28 February, which is day 3 of the week
@@ -24,7 +23,7 @@ const NIGHT: [(u64, u64, &str); 11] = [
 ];
 
 fn show(bus: &mut Bus<'_, Mm58274c>) -> io::Result<()> {
-    let Some(registers) = bus.registers::<15>(1) else {
+    let Ok(registers) = bus.registers::<15>(1) else {
         return println!(bus.rt; "  read at 1 to 15: refused");
     };
     let [
@@ -55,9 +54,7 @@ fn show(bus: &mut Bus<'_, Mm58274c>) -> io::Result<()> {
 fn set(bus: &mut Bus<'_, Mm58274c>, leap: u8, year: u8) -> io::Result<()> {
     bus.write(0, 5, "stop the clock and halt the timer")?;
     bus.write(15, u64::from(leap) * 4 + 1, "leap count and 24-hour mode")?;
-    for (address, value, what) in NIGHT {
-        bus.write(address, value, what)?;
-    }
+    bus.write_each(&NIGHT)?;
     bus.write(12, u64::from(year), "units of years")?;
     bus.write(13, 8, "tens of years")?;
     bus.write(0, 1, "start the clock")?;

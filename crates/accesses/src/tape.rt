@@ -19,7 +19,7 @@ const NIGHT: [(u64, u64, &str); 8] = [
 
 // Two digits a byte, the tens in the high half.
 fn show(bus: &mut Bus<'_, Mm58167b>) -> io::Result<()> {
-    let Some(registers) = bus.registers::<8>(0) else {
+    let Ok(registers) = bus.registers::<8>(0) else {
         return println!(bus.rt; "  read at 0 to 7: refused");
     };
     let [
@@ -55,9 +55,7 @@ pub(crate) fn follow(bus: &mut Bus<'_, Mm58167b>) -> io::Result<()> {
     )?;
     show(bus)?;
     println!(bus.rt; "\nIts driver sets it to the last second of the year, two digits a byte.")?;
-    for (address, value, what) in NIGHT {
-        bus.write(address, value, what)?;
-    }
+    bus.write_each(&NIGHT)?;
     show(bus)?;
     over_midnight(bus)?;
     println!(bus.rt; "\nA half that a byte lacks drops what is written, in RAM too.")?;

@@ -9,14 +9,14 @@ const OLDEST: u64 = 1 << 60;
 // The steps that a wait to the age OLDEST - 1 counts on a chip just made, and then the limit.
 fn limit<C: Chip>(chip: &mut C, steps: u64) -> Result<(), WrongAt> {
     let acts = [
-        Act::NoWait(OLDEST + 1, 5),
-        Act::NoWait(u64::MAX, 5),
-        Act::Wait(OLDEST - 1, steps),
-        Act::NoWait(2, 5),
-        Act::NoWait(u64::MAX, 5),
-        Act::Wait(1, 0),
-        Act::NoWait(1, 5),
-        Act::Wait(0, 0),
+        Act::Wait(OLDEST + 1, Err(5)),
+        Act::Wait(u64::MAX, Err(5)),
+        Act::Wait(OLDEST - 1, Ok(steps)),
+        Act::Wait(2, Err(5)),
+        Act::Wait(u64::MAX, Err(5)),
+        Act::Wait(1, Ok(0)),
+        Act::Wait(1, Err(5)),
+        Act::Wait(0, Ok(0)),
     ];
     perform(chip, &acts)
 }

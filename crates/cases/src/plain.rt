@@ -16,20 +16,8 @@ struct Counter {
 }
 
 impl Counter {
-    fn from_zero(value: u8, last: u8) -> Counter {
-        Counter {
-            value,
-            first: 0,
-            last,
-        }
-    }
-
-    fn from_one(value: u8, last: u8) -> Counter {
-        Counter {
-            value,
-            first: 1,
-            last,
-        }
+    fn new(first: u8, value: u8, last: u8) -> Counter {
+        Counter { value, first, last }
     }
 
     fn units(self) -> u8 {
@@ -74,9 +62,9 @@ impl Calendar {
     // On the last day of the week.
     fn on(date: Date) -> Calendar {
         Calendar {
-            weekday: Counter::from_one(7, 7),
+            weekday: Counter::new(1, 7, 7),
             day: date.day,
-            month: Counter::from_one(date.month, 12),
+            month: Counter::new(1, date.month, 12),
         }
     }
 
@@ -161,14 +149,14 @@ impl Mm58274c {
     pub(crate) fn at_the_end_of(hour: Hour, date: Date, year: Year) -> Mm58274c {
         Mm58274c {
             low: [
-                Counter::from_zero(9, 9),
-                Counter::from_zero(59, 59),
-                Counter::from_zero(59, 59),
+                Counter::new(0, 9, 9),
+                Counter::new(0, 59, 59),
+                Counter::new(0, 59, 59),
             ],
             hour,
             calendar: Calendar::on(date),
-            leap: Counter::from_zero(year.leap, 3),
-            year: Counter::from_zero(year.year, 99),
+            leap: Counter::new(0, year.leap, 3),
+            year: Counter::new(0, year.year, 99),
         }
     }
 
@@ -226,11 +214,11 @@ impl Mm58167b {
     pub(crate) fn at_the_end_of(date: Date) -> Mm58167b {
         Mm58167b {
             low: [
-                Counter::from_zero(9, 9),
-                Counter::from_zero(99, 99),
-                Counter::from_zero(59, 59),
-                Counter::from_zero(59, 59),
-                Counter::from_zero(23, 23),
+                Counter::new(0, 9, 9),
+                Counter::new(0, 99, 99),
+                Counter::new(0, 59, 59),
+                Counter::new(0, 59, 59),
+                Counter::new(0, 23, 23),
             ],
             calendar: Calendar::on(date),
         }

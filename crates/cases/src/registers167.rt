@@ -36,22 +36,22 @@ fn ram_keeps_its_halves(rt: HostRuntime) {
 fn counters_keep_their_halves(rt: HostRuntime) {
     let mut chip = Mm58167b::new();
     let acts = [
-        Act::Write(7, 0x12),
-        Act::Write(6, 0x31),
-        Act::Write(5, 0xf7),
-        Act::Write(4, 0x23),
-        Act::Write(3, 0x59),
-        Act::Write(2, 0x58),
-        Act::Write(1, 0x97),
-        Act::Write(0, 0x9f),
-        Act::Read(0, 0x90),
-        Act::Read(1, 0x97),
-        Act::Read(2, 0x58),
-        Act::Read(3, 0x59),
-        Act::Read(4, 0x23),
-        Act::Read(5, 0x07),
-        Act::Read(6, 0x31),
-        Act::Read(7, 0x12),
+        Act::Write(7, 0x12, Ok(())),
+        Act::Write(6, 0x31, Ok(())),
+        Act::Write(5, 0xf7, Ok(())),
+        Act::Write(4, 0x23, Ok(())),
+        Act::Write(3, 0x59, Ok(())),
+        Act::Write(2, 0x58, Ok(())),
+        Act::Write(1, 0x97, Ok(())),
+        Act::Write(0, 0x9f, Ok(())),
+        Act::Read(0, Ok(0x90)),
+        Act::Read(1, Ok(0x97)),
+        Act::Read(2, Ok(0x58)),
+        Act::Read(3, Ok(0x59)),
+        Act::Read(4, Ok(0x23)),
+        Act::Read(5, Ok(0x07)),
+        Act::Read(6, Ok(0x31)),
+        Act::Read(7, Ok(0x12)),
     ];
     assert_eq!(rt; perform(&mut chip, &acts), Ok(()));
     let digits = [9, 7, 9, 8, 5, 9, 5, 3, 2, 7, 1, 3, 2, 1];
@@ -60,12 +60,12 @@ fn counters_keep_their_halves(rt: HostRuntime) {
     }
     // 1.021 seconds to midnight, at the end of the year
     let acts = [
-        Act::Wait(33_456, 1_021),
-        Act::Read(0, 0x00),
-        Act::Read(4, 0x00),
-        Act::Read(5, 0x01),
-        Act::Read(6, 0x01),
-        Act::Read(7, 0x01),
+        Act::Wait(33_456, Ok(1_021)),
+        Act::Read(0, Ok(0x00)),
+        Act::Read(4, Ok(0x00)),
+        Act::Read(5, Ok(0x01)),
+        Act::Read(6, Ok(0x01)),
+        Act::Read(7, Ok(0x01)),
     ];
     assert_eq!(rt; perform(&mut chip, &acts), Ok(()));
 }
@@ -74,35 +74,35 @@ fn counters_keep_their_halves(rt: HostRuntime) {
 fn refusals_come_in_order(rt: HostRuntime) {
     let mut chip = Mm58167b::new();
     let acts = [
-        Act::NoRead(16, 2),
-        Act::NoRead(19, 2),
-        Act::NoRead(21, 2),
-        Act::NoRead(u64::MAX, 2),
-        Act::NoWrite(16, 999, 2),
-        Act::NoWrite(21, 0, 2),
-        Act::NoWrite(20, 999, 3),
-        Act::NoWrite(20, 0, 3),
-        Act::NoWrite(0, 256, 4),
-        Act::NoWrite(15, u64::MAX, 4),
-        Act::NoWrite(2, 0x60, 7),
-        Act::NoWrite(4, 0x24, 7),
-        Act::NoWrite(5, 0x00, 7),
-        Act::NoWrite(5, 0xf8, 7),
-        Act::NoWrite(7, 0x13, 7),
-        Act::NoWrite(6, 0x32, 7),
-        Act::NoDigit(14, 8),
-        Act::NoDigit(u64::MAX, 8),
+        Act::Read(16, Err(2)),
+        Act::Read(19, Err(2)),
+        Act::Read(21, Err(2)),
+        Act::Read(u64::MAX, Err(2)),
+        Act::Write(16, 999, Err(2)),
+        Act::Write(21, 0, Err(2)),
+        Act::Write(20, 999, Err(3)),
+        Act::Write(20, 0, Err(3)),
+        Act::Write(0, 256, Err(4)),
+        Act::Write(15, u64::MAX, Err(4)),
+        Act::Write(2, 0x60, Err(7)),
+        Act::Write(4, 0x24, Err(7)),
+        Act::Write(5, 0x00, Err(7)),
+        Act::Write(5, 0xf8, Err(7)),
+        Act::Write(7, 0x13, Err(7)),
+        Act::Write(6, 0x32, Err(7)),
+        Act::Digit(14, Err(8)),
+        Act::Digit(u64::MAX, Err(8)),
     ];
     assert_eq!(rt; perform(&mut chip, &acts), Ok(()));
     let acts = [
-        Act::Read(2, 0),
-        Act::Read(4, 0),
-        Act::Read(5, 1),
-        Act::Read(6, 1),
-        Act::Read(7, 1),
-        Act::Write(6, 0x28),
-        Act::Write(7, 0x02),
-        Act::NoWrite(6, 0x29, 7),
+        Act::Read(2, Ok(0)),
+        Act::Read(4, Ok(0)),
+        Act::Read(5, Ok(1)),
+        Act::Read(6, Ok(1)),
+        Act::Read(7, Ok(1)),
+        Act::Write(6, 0x28, Ok(())),
+        Act::Write(7, 0x02, Ok(())),
+        Act::Write(6, 0x29, Err(7)),
     ];
     assert_eq!(rt; perform(&mut chip, &acts), Ok(()));
 }
@@ -112,22 +112,22 @@ fn refusals_come_in_order(rt: HostRuntime) {
 fn the_rollover_status(rt: HostRuntime) {
     let mut chip = Mm58167b::new();
     let acts = [
-        Act::Wait(34, 1),
-        Act::Read(9, 0),
-        Act::Wait(34, 1),
-        Act::Read(20, 0),
-        Act::Read(3, 0),
-        Act::Wait(20, 0),
-        Act::Read(20, 0),
-        Act::Wait(100, 3),
-        Act::Read(20, 0),
-        Act::Read(0, 0x50),
-        Act::Wait(33, 1),
-        Act::Write(2, 0x30),
-        Act::Read(20, 1),
-        Act::Read(20, 0),
-        Act::Wait(33, 1),
-        Act::Read(20, 0),
+        Act::Wait(34, Ok(1)),
+        Act::Read(9, Ok(0)),
+        Act::Wait(34, Ok(1)),
+        Act::Read(20, Ok(0)),
+        Act::Read(3, Ok(0)),
+        Act::Wait(20, Ok(0)),
+        Act::Read(20, Ok(0)),
+        Act::Wait(100, Ok(3)),
+        Act::Read(20, Ok(0)),
+        Act::Read(0, Ok(0x50)),
+        Act::Wait(33, Ok(1)),
+        Act::Write(2, 0x30, Ok(())),
+        Act::Read(20, Ok(1)),
+        Act::Read(20, Ok(0)),
+        Act::Wait(33, Ok(1)),
+        Act::Read(20, Ok(0)),
     ];
     assert_eq!(rt; perform(&mut chip, &acts), Ok(()));
 }
@@ -137,17 +137,17 @@ fn arms_and_settles(rt: HostRuntime) {
     let mut chip = Mm58167b::new();
     let acts = [
         Act::Arm,
-        Act::Wait(31, 0),
-        Act::Digit(0, 0),
+        Act::Wait(31, Ok(0)),
+        Act::Digit(0, Ok(0)),
         Act::Settle(true),
-        Act::Wait(1, 1),
-        Act::Digit(0, 1),
+        Act::Wait(1, Ok(1)),
+        Act::Digit(0, Ok(1)),
         Act::Settle(false),
         Act::Settle(true),
-        Act::Wait(33, 1),
-        Act::Read(20, 1),
+        Act::Wait(33, Ok(1)),
+        Act::Read(20, Ok(1)),
         Act::Settle(true),
-        Act::Wait(33, 1),
+        Act::Wait(33, Ok(1)),
         Act::Settle(false),
     ];
     assert_eq!(rt; perform(&mut chip, &acts), Ok(()));

@@ -6,21 +6,21 @@ use mm58274c::chip::Mm58274c;
 
 // 28 February 84, 23:59:59, day of week 3, in 24-hour mode, leap count 0; and started.
 const NIGHT: [Act; 15] = [
-    Act::Write(15, 1),
-    Act::Write(2, 9),
-    Act::Write(3, 5),
-    Act::Write(4, 9),
-    Act::Write(5, 5),
-    Act::Write(6, 3),
-    Act::Write(7, 2),
-    Act::Write(8, 8),
-    Act::Write(9, 2),
-    Act::Write(10, 2),
-    Act::Write(11, 0),
-    Act::Write(12, 4),
-    Act::Write(13, 8),
-    Act::Write(14, 3),
-    Act::Write(0, 0),
+    Act::Write(15, 1, Ok(())),
+    Act::Write(2, 9, Ok(())),
+    Act::Write(3, 5, Ok(())),
+    Act::Write(4, 9, Ok(())),
+    Act::Write(5, 5, Ok(())),
+    Act::Write(6, 3, Ok(())),
+    Act::Write(7, 2, Ok(())),
+    Act::Write(8, 8, Ok(())),
+    Act::Write(9, 2, Ok(())),
+    Act::Write(10, 2, Ok(())),
+    Act::Write(11, 0, Ok(())),
+    Act::Write(12, 4, Ok(())),
+    Act::Write(13, 8, Ok(())),
+    Act::Write(14, 3, Ok(())),
+    Act::Write(0, 0, Ok(())),
 ];
 
 #[test]
@@ -29,7 +29,11 @@ fn made_stopped_and_zero(rt: HostRuntime) {
     for address in 0..16 {
         assert_eq!(rt; chip.read(address), Ok(0));
     }
-    let acts = [Act::Wait(1 << 40, 0), Act::Read(0, 0), Act::Take(false)];
+    let acts = [
+        Act::Wait(1 << 40, Ok(0)),
+        Act::Read(0, Ok(0)),
+        Act::Take(false),
+    ];
     assert_eq!(rt; perform(&mut chip, &acts), Ok(()));
 }
 
@@ -70,25 +74,25 @@ fn active_bits(rt: HostRuntime) {
 fn hour_22_switched_to_12_hour_mode_reads_02(rt: HostRuntime) {
     let mut chip = Mm58274c::new();
     let acts = [
-        Act::Write(15, 1),
-        Act::Write(6, 2),
-        Act::Write(7, 2),
-        Act::Read(7, 2),
-        Act::Write(15, 0),
-        Act::Read(6, 2),
-        Act::Read(7, 0),
-        Act::Write(15, 1),
-        Act::Read(7, 0),
+        Act::Write(15, 1, Ok(())),
+        Act::Write(6, 2, Ok(())),
+        Act::Write(7, 2, Ok(())),
+        Act::Read(7, Ok(2)),
+        Act::Write(15, 0, Ok(())),
+        Act::Read(6, Ok(2)),
+        Act::Read(7, Ok(0)),
+        Act::Write(15, 1, Ok(())),
+        Act::Read(7, Ok(0)),
     ];
     assert_eq!(rt; perform(&mut chip, &acts), Ok(()));
     let mut running = Mm58274c::new();
     assert_eq!(rt; perform(&mut running, &NIGHT), Ok(()));
     let acts = [
-        Act::Write(6, 2),
-        Act::Write(15, 2),
-        Act::Read(6, 2),
-        Act::Read(7, 0),
-        Act::Read(15, 2),
+        Act::Write(6, 2, Ok(())),
+        Act::Write(15, 2, Ok(())),
+        Act::Read(6, Ok(2)),
+        Act::Read(7, Ok(0)),
+        Act::Read(15, Ok(2)),
     ];
     assert_eq!(rt; perform(&mut running, &acts), Ok(()));
 }
@@ -97,7 +101,7 @@ fn hour_22_switched_to_12_hour_mode_reads_02(rt: HostRuntime) {
 fn pm_is_stored_as_0_in_24_hour_mode(rt: HostRuntime) {
     let mut chip = Mm58274c::new();
     for (written, read) in [(3, 1), (15, 13), (2, 2), (14, 14), (7, 5)] {
-        let acts = [Act::Write(15, written), Act::Read(15, read)];
+        let acts = [Act::Write(15, written, Ok(())), Act::Read(15, Ok(read))];
         assert_eq!(rt; perform(&mut chip, &acts), Ok(()));
     }
 }
@@ -106,23 +110,23 @@ fn pm_is_stored_as_0_in_24_hour_mode(rt: HostRuntime) {
 fn refusals_come_in_order(rt: HostRuntime) {
     let mut chip = Mm58274c::new();
     let acts = [
-        Act::NoRead(16, 2),
-        Act::NoRead(20, 2),
-        Act::NoRead(u64::MAX, 2),
-        Act::NoWrite(16, 99, 2),
-        Act::NoWrite(u64::MAX, u64::MAX, 2),
-        Act::NoWrite(1, 99, 3),
-        Act::NoWrite(1, 0, 3),
-        Act::NoWrite(0, 16, 4),
-        Act::NoWrite(15, u64::MAX, 4),
-        Act::NoWrite(0, 8, 6),
-        Act::NoWrite(0, 12, 6),
-        Act::NoWrite(0, 0, 7),
-        Act::NoDigit(15, 8),
-        Act::NoDigit(u64::MAX, 8),
-        Act::Write(0, 4),
-        Act::Write(14, 8),
-        Act::Read(14, 0),
+        Act::Read(16, Err(2)),
+        Act::Read(20, Err(2)),
+        Act::Read(u64::MAX, Err(2)),
+        Act::Write(16, 99, Err(2)),
+        Act::Write(u64::MAX, u64::MAX, Err(2)),
+        Act::Write(1, 99, Err(3)),
+        Act::Write(1, 0, Err(3)),
+        Act::Write(0, 16, Err(4)),
+        Act::Write(15, u64::MAX, Err(4)),
+        Act::Write(0, 8, Err(6)),
+        Act::Write(0, 12, Err(6)),
+        Act::Write(0, 0, Err(7)),
+        Act::Digit(15, Err(8)),
+        Act::Digit(u64::MAX, Err(8)),
+        Act::Write(0, 4, Ok(())),
+        Act::Write(14, 8, Ok(())),
+        Act::Read(14, Ok(0)),
     ];
     assert_eq!(rt; perform(&mut chip, &acts), Ok(()));
 }
@@ -133,21 +137,21 @@ fn a_running_chip_stays_lawful(rt: HostRuntime) {
     let mut chip = Mm58274c::new();
     assert_eq!(rt; perform(&mut chip, &NIGHT), Ok(()));
     let acts = [
-        Act::NoWrite(10, 0, 7),
-        Act::NoWrite(3, 7, 7),
-        Act::NoWrite(9, 3, 7),
-        Act::Read(10, 2),
-        Act::Read(3, 5),
-        Act::Read(9, 2),
-        Act::Read(15, 1),
-        Act::Write(8, 9),
-        Act::Read(8, 9),
-        Act::NoWrite(15, 5, 7),
-        Act::Write(0, 4),
-        Act::Write(15, 5),
-        Act::NoWrite(0, 0, 7),
-        Act::Write(8, 8),
-        Act::Write(0, 0),
+        Act::Write(10, 0, Err(7)),
+        Act::Write(3, 7, Err(7)),
+        Act::Write(9, 3, Err(7)),
+        Act::Read(10, Ok(2)),
+        Act::Read(3, Ok(5)),
+        Act::Read(9, Ok(2)),
+        Act::Read(15, Ok(1)),
+        Act::Write(8, 9, Ok(())),
+        Act::Read(8, Ok(9)),
+        Act::Write(15, 5, Err(7)),
+        Act::Write(0, 4, Ok(())),
+        Act::Write(15, 5, Ok(())),
+        Act::Write(0, 0, Err(7)),
+        Act::Write(8, 8, Ok(())),
+        Act::Write(0, 0, Ok(())),
     ];
     assert_eq!(rt; perform(&mut chip, &acts), Ok(()));
 }
@@ -157,15 +161,15 @@ fn midnight_by_the_bus(rt: HostRuntime) {
     let mut chip = Mm58274c::new();
     assert_eq!(rt; perform(&mut chip, &NIGHT), Ok(()));
     let acts = [
-        Act::Wait(3_275, 0),
-        Act::Wait(1, 1),
-        Act::Read(1, 1),
-        Act::Wait(32_768 - 3_276, 9),
-        Act::Read(8, 9),
-        Act::Read(6, 0),
-        Act::Read(14, 4),
-        Act::Digit(7, 9),
-        Act::Digit(14, 1),
+        Act::Wait(3_275, Ok(0)),
+        Act::Wait(1, Ok(1)),
+        Act::Read(1, Ok(1)),
+        Act::Wait(32_768 - 3_276, Ok(9)),
+        Act::Read(8, Ok(9)),
+        Act::Read(6, Ok(0)),
+        Act::Read(14, Ok(4)),
+        Act::Digit(7, Ok(9)),
+        Act::Digit(14, Ok(1)),
     ];
     assert_eq!(rt; perform(&mut chip, &acts), Ok(()));
 }
@@ -176,15 +180,15 @@ fn the_data_changed_flag(rt: HostRuntime) {
     let mut chip = Mm58274c::new();
     assert_eq!(rt; perform(&mut chip, &NIGHT), Ok(()));
     let acts = [
-        Act::Read(0, 0),
-        Act::Wait(3_276, 1),
-        Act::Write(2, 0),
-        Act::Write(0, 0),
-        Act::Write(0, 4),
-        Act::Read(0, 8),
-        Act::Read(0, 0),
-        Act::Wait(1 << 20, 0),
-        Act::Read(0, 0),
+        Act::Read(0, Ok(0)),
+        Act::Wait(3_276, Ok(1)),
+        Act::Write(2, 0, Ok(())),
+        Act::Write(0, 0, Ok(())),
+        Act::Write(0, 4, Ok(())),
+        Act::Read(0, Ok(8)),
+        Act::Read(0, Ok(0)),
+        Act::Wait(1 << 20, Ok(0)),
+        Act::Read(0, Ok(0)),
     ];
     assert_eq!(rt; perform(&mut chip, &acts), Ok(()));
 }
@@ -194,14 +198,14 @@ fn a_stop_zeroes_tenths_and_divider(rt: HostRuntime) {
     let mut chip = Mm58274c::new();
     assert_eq!(rt; perform(&mut chip, &NIGHT), Ok(()));
     let acts = [
-        Act::Wait(3 * 3_277, 3),
-        Act::Read(1, 3),
-        Act::Write(0, 4),
-        Act::Read(1, 0),
-        Act::Read(2, 9),
-        Act::Write(0, 0),
-        Act::Wait(3_275, 0),
-        Act::Wait(1, 1),
+        Act::Wait(3 * 3_277, Ok(3)),
+        Act::Read(1, Ok(3)),
+        Act::Write(0, 4, Ok(())),
+        Act::Read(1, Ok(0)),
+        Act::Read(2, Ok(9)),
+        Act::Write(0, 0, Ok(())),
+        Act::Wait(3_275, Ok(0)),
+        Act::Wait(1, Ok(1)),
     ];
     assert_eq!(rt; perform(&mut chip, &acts), Ok(()));
 }
@@ -213,14 +217,14 @@ fn arms_and_settles(rt: HostRuntime) {
     assert_eq!(rt; perform(&mut chip, &NIGHT), Ok(()));
     let acts = [
         Act::Arm,
-        Act::Wait(3_275, 0),
+        Act::Wait(3_275, Ok(0)),
         Act::Settle(true),
-        Act::Wait(1, 1),
-        Act::Digit(0, 1),
+        Act::Wait(1, Ok(1)),
+        Act::Digit(0, Ok(1)),
         Act::Settle(false),
         Act::Settle(true),
-        Act::Wait(3_277, 1),
-        Act::Read(0, 8),
+        Act::Wait(3_277, Ok(1)),
+        Act::Read(0, Ok(8)),
         Act::Settle(true),
     ];
     assert_eq!(rt; perform(&mut chip, &acts), Ok(()));

@@ -1,6 +1,6 @@
 // Digits as registers hold them.
 ghost use Rattle.std.specs.Prelude.{◌≡◌, ℕ, ◌%◌, ◌<◌, ◌≤◌, length, MatchResult, slice_index, slice_set};
-ghost use Rattle.chips.specs.declared.refusal.Refusal.TheVariants.{NoColumn};
+ghost use Rattle.chips.specs.declared.refusal.Refusal.TheVariants.{NoColumn, Unlawful};
 
 use crate::refusal::Refusal;
 use clock::calendar::Calendar;
@@ -21,6 +21,13 @@ impl<const N: usize> Digits<N> {
         Digits {
             columns: counters.face(),
         }
+    }
+
+    // The counters that show these digits, if they are a lawful face.
+    pub fn counters<C: Calendar<N>>(&self) -> Result<C, Refusal>
+        ensures { MatchResult result (λ c. (C.shown c ≡ self.now.columns) × C.lawful self.now.columns) (λ e. (e ≡ Unlawful) × (C.lawful self.now.columns → ⊥)) }
+    {
+        C::from_face(&self.columns).ok_or(Refusal::Unlawful)
     }
 
     // The digit of a column.

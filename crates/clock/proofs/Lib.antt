@@ -2,6 +2,7 @@ pub mod Passing
 pub mod Periods
 pub mod Waiting
 pub mod KnownDividers
+pub mod Stands
 pub mod Modular
 pub mod Masks
 pub mod Rolling

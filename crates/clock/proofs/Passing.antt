@@ -1,5 +1,5 @@
 -- Passed cycles and counted steps, from fewer cycles to more.
-use Rattle.std.proofs.Common.{◌≡◌, ℕ, ◌+◌, ◌-◌, ◌*◌, ◌/◌, ◌%◌, ◌<◌, ◌≤◌, min, ap, ◌∙◌, inl, inr, mul-le-mul_right, mod-lt, div-lt_iff_lt-mul, add-mul, le-div_iff_mul-le, mul-add, le-mul_of_pos_right, div-mul-le_self, arith}
+use Rattle.std.proofs.Common.{◌≡◌, ℕ, ◌+◌, ◌-◌, ◌*◌, ◌/◌, ◌%◌, ◌<◌, ◌≤◌, min, ap, ◌∙◌, inl, inr, mul-le-mul_right, mod-lt, div-lt_iff_lt-mul, add-mul, le-div_iff_mul-le, mul-add, div-le_self, le-mul_of_pos_right, div-mul-le_self, arith}
 use native.Mathlib.Nat.{add-mul-div_left, add-mul-mod_self_left, mod-add-div', lt-div-mul-add}
 use Rattle.std.proofs.lemmas.Bool.{cases_lt}
 use Rattle.clock.specs.Divider.{Divider, Divides, passed, counted, stepped}
@@ -58,6 +58,10 @@ module _ (v : Divider) (ok : Divides v) where
   pub counted_mono : (a b : ℕ) → a ≤ b → counted v a ≤ counted v b
   unfolding counted
   counted_mono a b l = (le-div_iff_mul-le ok.some_count).1 (omega (arith, passed_mono a b l, div-mul-le_self (passed v a) v.k))
+
+  pub counted_le : (c : ℕ) → counted v c ≤ c
+  unfolding counted
+  counted_le c = omega (arith, passed_le c, div-le_self (passed v c) v.k)
 
   -- a wait counts at most a step for each cycle
   pub stepped_le : (h n : ℕ) → stepped v h n ≤ n

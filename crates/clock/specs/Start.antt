@@ -21,6 +21,10 @@ abbrev pub DateShown : TwoDigits → TwoDigits → TwoDigits → ℕ → Type 0
 DateShown day month year leap =
     Between day 1 (days_of (number month) (leap == 0)) × Between month 1 12 × Between year 0 99 × (leap ≤ 3)
 
+-- a day of a year
+abbrev pub DayShown : TwoDigits → TwoDigits → Bool → Type 0
+DayShown day month leap = Between day 1 (days_of (number month) leap) × Between month 1 12
+
 -- a day of a year that is never a leap year
 abbrev pub MonthDayShown : TwoDigits → TwoDigits → Type 0
-MonthDayShown day month = Between day 1 (days_of (number month) false) × Between month 1 12
+MonthDayShown day month = DayShown day month false

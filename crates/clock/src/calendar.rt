@@ -1,6 +1,7 @@
 // What the running counters of each kind do, as a trait.
 ghost use Rattle.std.specs.Prelude.{◌≡◌, ℕ, ◌≤◌, List, length, slice_index, MatchOption};
 ghost use Rattle.clock.specs.Divider.{Divider as Numbers, Divides};
+ghost use Rattle.clock.specs.Numbers.{numbers as numbers_of};
 ghost use Rattle.clock.specs.Rounds.{RoundLaw};
 ghost use Rattle.clock.specs.Times.{times};
 
@@ -23,7 +24,7 @@ pub trait Calendar<const N: usize>: Copy {
     ghost shown: { Self → List ℕ };
 
     fn divider() -> Divider
-        ensures { result ≡ numbers };
+        ensures { numbers_of result ≡ numbers };
 
     // The counters that a face shows; none if it is not lawful.
     fn from_face(digits: &[u8]) -> Option<Self>

@@ -1,11 +1,13 @@
 // What turns cycles into steps. A cycle is one period of the crystal, a step one count of the chip's lowest counter.
-
-use std::marker::Model;
+ghost use Rattle.std.specs.Prelude.{◌≡◌, ◌<◌, ◌≤◌};
+ghost use Rattle.clock.specs.Divider.{period as period_of};
 
 mod count;
 
 // The cycles that the crystal makes in a second.
 pub const SECOND: u64 = 32_768;
+// and in a day
+pub const DAY: u64 = 24 * 60 * 60 * SECOND;
 
 // Of every `m` cycles it drops the last `d`, and it divides the rest by `k`.
 #[derive(Clone, Copy)]
@@ -18,23 +20,9 @@ pub struct Divider {
     pub(crate) k: u32,
     // the cycles after which it stands as it stood
     pub(crate) period: u64,
-}
-
-// In clauses a divider is its three numbers.
-impl Model for Divider {
-    ghost use Rattle.clock.specs.Divider.{Divider as Numbers};
-
-    ghost Value = { Numbers };
-
-    ghost use Rattle.clock.specs.Numbers.{numbers, IsDivider, fields, fields_told};
-
-    ghost view = { numbers };
-
-    ghost invariant = { IsDivider };
-
-    ghost inverse = { fields };
-
-    ghost inverse_ok = { fields_told };
+    ghost passes: { d < m },
+    ghost counts: { 1 ≤ k },
+    ghost repeats: { period ≡ period_of (record { m = m; d = d; k = k }) },
 }
 
 // What a wait comes to: the steps counted in it, and the cycles held after it.

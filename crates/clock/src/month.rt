@@ -4,6 +4,7 @@ ghost use Rattle.clock.specs.Counter.{days_of};
 ghost use Rattle.clock.specs.Parts.{Dated};
 
 mod place;
+mod shown;
 
 pub(crate) fn days_of(month: u8, leap: bool) -> u8
     ensures { (result ≡ days_of month leap) × (result ≤ 31) }

@@ -10,16 +10,14 @@ use Rattle.clock.specs.Widths.{columns_274, four_bits_274}
 use Rattle.clock.proofs.Periods.{period_some}
 use Rattle.clock.proofs.Shown274.{face_lawful, told_by_face}
 use Rattle.clock.proofs.Told.{ticking_told}
-use Rattle.chips.specs.contracts.age.Age as age
-use Rattle.chips.specs.contracts.calls.Calls as calls
 use Rattle.chips.proofs.Told.{age_told, calls_told, digits_told}
 use Rattle.mm58274c.specs.declared.counters.Counters.{Counters}
 use Rattle.mm58274c.specs.declared.counters.Counters.TheVariants.{Stopped, Running}
 use Rattle.mm58274c.specs.declared.chip.Mm58274c.{Mm58274c}
-use Rattle.mm58274c.specs.contracts.counters.Counters as counters
 use Rattle.mm58274c.specs.contracts.timer.Timer as timer
-use Rattle.mm58274c.specs.contracts.flags.Flags as flags
-use Rattle.mm58274c.specs.contracts.chip.Mm58274c as chip
+use Rattle.mm58274c.specs.declared.interrupt.Interrupt.{Interrupt}
+use Rattle.mm58274c.specs.contracts.interrupt.Interrupt as interrupt
+use Rattle.mm58274c.specs.contracts.nibble.Nibble as nibble
 use Rattle.mm58274c.specs.Registers.{Time, RunsLawfully}
 use Rattle.mm58274c.specs.View.{time, registers}
 
@@ -55,10 +53,15 @@ counters_told (Running a) (Running b) e =
 counters_told (Stopped a) (Running b) e = absurd (false≢true (ap (λ t. t.running) e))
 counters_told (Running a) (Stopped b) e = absurd (true≢false (ap (λ t. t.running) e))
 
+interrupt_told : (a b : Interrupt) → a.register.value ≡ b.register.value → a.timer ≡ b.timer → a ≡ b
+interrupt_told a b e f =
+    let r : a.register ≡ b.register = values_one nibble.struct nibble.the_propositions a.register b.register (λ i. (e i, tt)) in
+    values_one interrupt.struct (interrupt.the_propositions (nibble.the_row).coded (timer.the_row).coded) a b (λ i. (r i, (f i, tt)))
+
 pub registers_tell : (x y : Mm58274c) → registers x ≡ registers y → x ≡ y
 registers_tell x y e =
     let c = counters_told x.counters y.counters (ap (λ s. s.time) e) in
     let age_is = age_told x.age y.age (ap (λ s. s.age) e) in
     let calls_are = calls_told x.calls y.calls (ap (λ s. s.calls) e) in
-    values_one chip.struct (chip.the_propositions (counters.the_row).coded (timer.the_row).coded (flags.the_row).coded (age.the_row).coded (calls.the_row).coded) x y
-    (λ i. (c i, ((e i).select, ((e i).interrupt, ((e i).timer, ((e i).flags, ((e i).armed, (age_is i, (calls_are i, tt)))))))))
+    let interrupt_is = interrupt_told x.interrupt y.interrupt (ap (λ s. s.interrupt) e) (ap (λ s. s.timer) e) in
+    λ i. record { counters = c i; select = (e i).select; interrupt = interrupt_is i; flags = (e i).flags; armed = (e i).armed; age = age_is i; calls = calls_are i }

@@ -23,8 +23,8 @@ abbrev pub registers : Mm58274c → Registers
 registers x = record {
   time = time x.counters;
   select = x.select;
-  interrupt = x.interrupt;
-  timer = x.timer;
+  interrupt = x.interrupt.register.value;
+  timer = x.interrupt.timer;
   flags = x.flags;
   armed = x.armed;
   age = x.age.cycles;

@@ -15,15 +15,15 @@ pub(crate) fn has_bit(register: u8, place: u8) -> bool
 }
 
 // The low `bits` of a digit.
-pub(crate) fn low_bits(digit: u8, bits: u8) -> u8
+fn low_bits(digit: u8, bits: u8) -> u8
     requires { bits ≤ 4 }
     ensures { (result ≡ cut bits digit) × (result ≤ 15) }
 {
     digit & ((1 << bits) - 1)
 }
 
-// The active bits of the digit in a column. Tens of hours has one less in 12-hour mode.
-pub(crate) fn active(column: usize, mode: HourMode) -> u8
+// How many bits of the digit in a column are active. Tens of hours has one less in 12-hour mode.
+fn active(column: usize, mode: HourMode) -> u8
     requires { column ≤ 13 }
     ensures { (result ≡ active_bits (is24 mode) column) × (result ≤ 4) }
 {
@@ -39,6 +39,14 @@ pub(crate) fn active(column: usize, mode: HourMode) -> u8
         10 => 1,
         _ => 4,
     }
+}
+
+// The active bits of a digit in its column.
+pub(crate) fn active_part(digit: u8, column: usize, mode: HourMode) -> u8
+    requires { column ≤ 13 }
+    ensures { (result ≡ cut (active_bits (is24 mode) column) digit) × (result ≤ 15) }
+{
+    low_bits(digit, active(column, mode))
 }
 
 // The setting register as it is stored: in 24-hour mode PM is 0.

@@ -2,7 +2,7 @@
 ghost use Rattle.std.specs.Prelude.{◌≡◌};
 ghost use Rattle.mm58274c.specs.Registers.{setting_written, digit_written};
 
-use crate::bits::{active, has_bit, low_bits, stored};
+use crate::bits::{active_part, has_bit, stored};
 use crate::nibble::Nibble;
 use crate::register::Column;
 use chips::digits::Digits;
@@ -16,8 +16,8 @@ const SETTING: usize = 14;
 pub(crate) fn with_setting(digits: Digits<15>, setting: Nibble) -> Digits<15>
     ensures { result.columns ≡ setting_written digits.columns setting.value }
 {
-    let bits = active(TENS_OF_HOURS, HourMode::from(has_bit(setting.value, 0)));
-    let tens = low_bits(digits.columns[TENS_OF_HOURS], bits);
+    let mode = HourMode::from(has_bit(setting.value, 0));
+    let tens = active_part(digits.columns[TENS_OF_HOURS], TENS_OF_HOURS, mode);
     digits
         .with(SETTING, stored(setting).value)
         .with(TENS_OF_HOURS, tens)
@@ -27,6 +27,5 @@ pub(crate) fn with_digit(digits: Digits<15>, column: Column, digit: Nibble) -> D
     ensures { result.columns ≡ digit_written digits.columns column.index digit.value }
 {
     let mode = HourMode::from(has_bit(digits.columns[SETTING], 0));
-    let bits = active(column.index, mode);
-    digits.with(column.index, low_bits(digit.value, bits))
+    digits.with(column.index, active_part(digit.value, column.index, mode))
 }

@@ -7,6 +7,7 @@ mod control;
 mod counters;
 mod digits;
 mod flags;
+mod interrupt;
 mod nibble;
 mod register;
 mod timer;

@@ -6,7 +6,7 @@ ghost use Rattle.clock.specs.declared.hour.Hour.TheVariants.{TwentyFour};
 
 use clock::calendar::Calendar;
 use clock::date::Date;
-use clock::divider::SECOND;
+use clock::divider::{DAY, SECOND};
 use clock::hour::{Hour, HourOfDay};
 use clock::mm58274c::Running;
 use clock::ticking::Ticking;
@@ -16,8 +16,6 @@ use words::Several;
 mod display;
 
 use display::{Day, Face, TimeOfDay};
-
-const DAY: u64 = 24 * 60 * 60 * SECOND;
 
 // A clock just started, a tenth before midnight.
 fn before_midnight(date: Date, weekday: u8) -> Ticking<Running, 15>
@@ -108,6 +106,15 @@ fn introduce(rt: &HostRuntime) -> io::Result<()> {
     )
 }
 
+// A clock from 28 February on.
+fn tell(rt: &HostRuntime, year: &str, date: Date, weekday: u8) -> io::Result<()>
+    requires { (1 ≤ weekday) × (weekday ≤ 7) }
+{
+    println!(rt; "\n{year}: the clock has just been started.")?;
+    let clock = before_midnight(date, weekday);
+    CaptionMachine { rt, clock }.follow()
+}
+
 fn main(rt: HostRuntime) -> io::Result<()> {
     introduce(&rt)?;
     let leap_year = Date {
@@ -116,16 +123,12 @@ fn main(rt: HostRuntime) -> io::Result<()> {
         leap: 0,
         year: 84,
     };
-    println!(rt; "\nA leap year: the clock has just been started.")?;
-    let clock = before_midnight(leap_year, 3);
-    CaptionMachine { rt: &rt, clock }.follow()?;
+    tell(&rt, "A leap year", leap_year, 3)?;
     let common_year = Date {
         day: 28,
         month: 2,
         leap: 1,
         year: 85,
     };
-    println!(rt; "\nA common year: the clock has just been started.")?;
-    let clock = before_midnight(common_year, 5);
-    CaptionMachine { rt: &rt, clock }.follow()
+    tell(&rt, "A common year", common_year, 5)
 }

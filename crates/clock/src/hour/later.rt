@@ -8,8 +8,8 @@ use crate::hour::{Hour, HourOfDay};
 use crate::mode::HourMode;
 
 impl HourOfDay {
-    pub(crate) fn since_midnight(&self) -> u8
-        ensures { (result ≡ hour self.now) × (result < 24) }
+    pub(crate) fn since_midnight(self) -> u8
+        ensures { (result ≡ hour self) × (result < 24) }
     {
         match self.hour {
             Hour::TwentyFour(hours) => hours,

@@ -1,7 +1,8 @@
 // The MM58167B's calendar: it counts milliseconds.
-ghost use Rattle.std.specs.Prelude.{◌≡◌, MatchOption};
+ghost use Rattle.std.specs.Prelude.{◌≡◌};
 ghost use Rattle.clock.specs.Divider.{milliseconds, counted, period};
 ghost use Rattle.clock.specs.Mm58167b.{Lawful, step as step_167};
+ghost use Rattle.clock.specs.Numbers.{numbers as numbers_of};
 ghost use Rattle.clock.specs.Registers167.{face as face_167};
 ghost use Rattle.clock.specs.Widths.{columns_167, four_bits_167};
 ghost use Rattle.std.proofs.Common.{rules};
@@ -31,9 +32,9 @@ impl Calendar<14> for Running {
     ghost four_bits = { four_bits_167 };
 
     fn divider() -> Divider
-        ensures numbers { result ≡ milliseconds }
-        ensures period { period result ≡ 4096 }
-        ensures steps { counted result 4096 ≡ 125 }
+        ensures numbers { numbers_of result ≡ milliseconds }
+        ensures period { period (numbers_of result) ≡ 4096 }
+        ensures steps { counted (numbers_of result) 4096 ≡ 125 }
     {
         Divider {
             m: 128,

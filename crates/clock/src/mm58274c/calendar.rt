@@ -1,7 +1,8 @@
 // The MM58274C's calendar: it counts tenths of a second.
-ghost use Rattle.std.specs.Prelude.{◌≡◌, MatchOption};
+ghost use Rattle.std.specs.Prelude.{◌≡◌};
 ghost use Rattle.clock.specs.Divider.{tenths, counted, period};
 ghost use Rattle.clock.specs.Mm58274c.{Lawful, step as step_274};
+ghost use Rattle.clock.specs.Numbers.{numbers as numbers_of};
 ghost use Rattle.clock.specs.Registers274.{face as face_274};
 ghost use Rattle.clock.specs.Widths.{columns_274, four_bits_274};
 ghost use Rattle.std.proofs.Common.{rules};
@@ -33,9 +34,9 @@ impl Calendar<15> for Running {
     ghost four_bits = { four_bits_274 };
 
     fn divider() -> Divider
-        ensures numbers { result ≡ tenths }
-        ensures period { period result ≡ 16384 }
-        ensures steps { counted result 16384 ≡ 5 }
+        ensures numbers { numbers_of result ≡ tenths }
+        ensures period { period (numbers_of result) ≡ 16384 }
+        ensures steps { counted (numbers_of result) 16384 ≡ 5 }
     {
         Divider {
             m: 16,

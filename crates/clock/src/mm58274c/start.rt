@@ -1,18 +1,14 @@
-// Counters from the digits of a face, and back.
+// The hour and the date that digits show.
 ghost use Rattle.std.specs.Prelude.{◌≡◌, MatchOption};
-ghost use Rattle.clock.specs.Mm58274c.{Lawful};
 ghost use Rattle.clock.specs.Hours.{hours, is_pm, mode24};
 ghost use Rattle.clock.specs.Modes.{is24};
-ghost use Rattle.clock.specs.Registers274.{face};
 ghost use Rattle.clock.specs.Start.{number, HourShown, DateShown};
 
 use crate::date::Date;
 use crate::digits::TwoDigits;
 use crate::hour::{Hour, HourOfDay};
-use crate::mm58274c::Running;
 use crate::mode::HourMode;
-use crate::month::days_of;
-use crate::setting::Setting;
+use crate::month::YearDay;
 
 // The hour that its digits show under a mode.
 pub(super) fn hour_shown(digits: TwoDigits, pm: bool, mode: HourMode) -> Option<HourOfDay>
@@ -36,15 +32,14 @@ pub(super) fn date_shown(
 ) -> Option<Date>
     ensures { MatchOption result (DateShown day month year leap → ⊥) (λ d. (d.day ≡ number day) × (d.month ≡ number month) × (d.year ≡ number year) × (d.leap ≡ leap) × DateShown day month year leap) }
 {
-    let month = month.between(1, 12)?;
+    let on = YearDay::shown(day, month, leap == 0)?;
     let year = year.between(0, 99)?;
-    let day = day.between(1, days_of(month, leap == 0))?;
     if leap > 3 {
         return None;
     }
     Some(Date {
-        day,
-        month,
+        day: on.day,
+        month: on.month,
         leap,
         year,
     })

@@ -10,14 +10,12 @@ use crate::halves::with_byte;
 use crate::register::Place;
 use chips::digits::Digits;
 use chips::refusal::Refusal;
-use clock::calendar::Calendar;
-use clock::mm58167b::Running;
 
 // A value as a byte of the bus.
 pub(super) fn byte(value: u64) -> Result<u8, Refusal>
     ensures { MatchResult result (λ b. (b ≡ value) × (value ≤ 255)) (λ e. (e ≡ TooWide) × (value ≤ 255 → ⊥)) }
 {
-    u8::try_from(value).or(Err(Refusal::TooWide))
+    u8::try_from(value).map_err(|_| Refusal::TooWide)
 }
 
 impl Mm58167b {
@@ -47,7 +45,7 @@ impl Mm58167b {
         ensures { Lands (with_digits (registers self.old) (with_byte (registers self.old).digits place.index value) (registers self.old).ram) self.old result self.new }
     {
         let digits = with_byte(Digits::shown(&self.clock.counters), place, value);
-        self.clock.counters = Running::from_face(&digits.columns).ok_or(Refusal::Unlawful)?;
+        self.clock.counters = digits.counters()?;
         Ok(())
     }
 

@@ -51,7 +51,7 @@ impl Chip for Mm58167b {
     fn wait(&mut self, cycles: u64) -> Result<Waited, Refusal> {
         let age = self.age.grown(cycles)?;
         let steps = self.clock.wait(cycles);
-        self.status |= self.seen & (0 < steps);
+        self.status |= self.seen & (steps > 0);
         self.age = age;
         Ok(Waited { steps })
     }

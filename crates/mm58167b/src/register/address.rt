@@ -7,7 +7,7 @@ use chips::refusal::Refusal;
 impl TryFrom<u64> for Register {
     type Error = Refusal;
 
-    ghost use Rattle.chips.specs.Questions.{AllYes, FirstNo};
+    ghost use Rattle.chips.specs.Questions.{FirstNo};
     ghost use Rattle.mm58167b.specs.Address.{Is};
     ghost use Rattle.mm58167b.specs.Registers.{read_questions};
 

@@ -6,6 +6,8 @@ ghost use Rattle.mm58274c.specs.View.{registers};
 use crate::chip::Mm58274c;
 use crate::counters::Counters;
 use crate::flags::Flags;
+use crate::interrupt::Interrupt;
+use crate::nibble::Nibble;
 use crate::timer::Timer;
 use chips::age::Age;
 use chips::calls::Calls;
@@ -18,8 +20,10 @@ impl Mm58274c {
         Mm58274c {
             counters: Counters::zero(),
             select: false,
-            interrupt: 0,
-            timer: Timer::Halted,
+            interrupt: Interrupt {
+                register: Nibble { value: 0 },
+                timer: Timer::Halted,
+            },
             flags: Flags {
                 changed: false,
                 rang: false,

@@ -52,9 +52,8 @@ impl Chip for Mm58274c {
     fn wait(&mut self, cycles: u64) -> Result<Waited, Refusal> {
         let age = self.age.grown(cycles)?;
         let steps = self.counters.wait(cycles);
-        let (timer, rang) = self.timer.on(Event::Steps(steps), self.interrupt);
-        self.timer = timer;
-        self.flags.changed |= 0 < steps;
+        let rang = self.interrupt.on(Event::Steps(steps));
+        self.flags.changed |= steps > 0;
         self.flags.rang |= rang;
         self.age = age;
         Ok(Waited { steps })
@@ -83,7 +82,7 @@ impl Chip for Mm58274c {
             Register::Control => self.read_control(),
             Register::Tenths => digits.columns[0],
             Register::Digit(column) => digits.columns[column.index],
-            Register::Selected if self.select => self.interrupt,
+            Register::Selected if self.select => self.interrupt.register.value,
             Register::Selected => digits.columns[14],
         })
     }

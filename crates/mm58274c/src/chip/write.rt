@@ -24,19 +24,16 @@ impl Mm58274c {
         } else {
             Event::Start
         };
-        let (timer, _) = self.timer.on(event, self.interrupt);
         self.counters = counters;
         self.select = control.select;
-        self.timer = timer;
+        self.interrupt.on(event);
         Ok(())
     }
 
     pub(super) fn load_interrupt(&mut self, nibble: Nibble)
         ensures { registers self.new ≡ interrupt_written (registers self.old) nibble.value }
     {
-        let (timer, _) = self.timer.on(Event::Load, self.interrupt);
-        self.interrupt = nibble.value;
-        self.timer = timer;
+        self.interrupt.load(nibble);
     }
 
     pub(super) fn hold(&mut self, digits: Digits<15>) -> Result<(), Refusal>

@@ -6,8 +6,6 @@ ghost use Rattle.mm58274c.specs.View.{Becomes, time};
 use crate::counters::Counters;
 use chips::digits::Digits;
 use chips::refusal::Refusal;
-use clock::calendar::Calendar;
-use clock::mm58274c::Running;
 use clock::ticking::Ticking;
 
 impl Counters {
@@ -34,7 +32,7 @@ impl Counters {
         match self {
             Counters::Stopped(_) => Ok(Counters::Stopped(digits)),
             Counters::Running(clock) => {
-                let counters = Running::from_face(&digits.columns).ok_or(Refusal::Unlawful)?;
+                let counters = digits.counters()?;
                 Ok(Counters::Running(Ticking {
                     counters,
                     held: clock.held,
@@ -49,7 +47,7 @@ impl Counters {
         match self {
             Counters::Running(_) => Ok(self),
             Counters::Stopped(digits) => {
-                let counters = Running::from_face(&digits.columns).ok_or(Refusal::Unlawful)?;
+                let counters = digits.counters()?;
                 Ok(Counters::Running(Ticking::started(counters)))
             }
         }

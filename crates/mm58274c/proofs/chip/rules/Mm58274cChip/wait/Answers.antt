@@ -7,16 +7,16 @@ pub returns : goal.returns
 returns c =
     let s = registers c.args.self.now in
     let w = c.wait-steps in
-    let o = at_once s c.args.cycles w.result c.on-timer.result w.ensures.steps c.on-timer.ensures.after in (
+    let o = at_once s c.args.cycles w.result (c.on-rang.new.self.timer, c.on-rang.result) w.ensures.steps c.on-rang.ensures.after in (
       (omega (arith, c.in_ok-age.ensures, c.in_ok-age.age.young), tt),
       (
         (λ i. record { steps = w.ensures.steps i }),
         (λ i. record {
           time = record { digits = w.ensures.digits i; running = w.ensures.running i; held = w.ensures.held i };
           select = s.select;
-          interrupt = s.interrupt;
-          timer = c.on-timer.result.0;
-          flags = record { changed = s.flags.changed || ltb 0 w.result; rang = s.flags.rang || c.on-timer.result.1; kept = s.flags.kept };
+          interrupt = (c.on-rang.ensures.register i).value;
+          timer = c.on-rang.new.self.timer;
+          flags = record { changed = s.flags.changed || ltb 0 w.result; rang = s.flags.rang || c.on-rang.result; kept = s.flags.kept };
           armed = s.armed;
           age = c.in_ok-age.ensures i;
           calls = s.calls;
