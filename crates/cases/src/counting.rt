@@ -7,7 +7,6 @@ use clock::calendar::Calendar;
 use clock::mm58167b::Running as Running167;
 use clock::mm58274c::Running as Running274;
 use clock::ticking::Ticking;
-use std::alloc::{AllocError, Global};
 use std::test::Fail;
 
 // leap days, ends of months and of the year
@@ -55,32 +54,26 @@ fn agrees<C: Calendar<N>, P: Plain<N>, const N: usize>(start: &P, n: u32) -> Opt
     Some(counters.face() == plain.face())
 }
 
-// Each hour of each date in each year.
-fn starts274(alloc: Global) -> Result<Vec<Mm58274c>, AllocError> {
-    let mut starts = Vec::new(alloc);
-    for year in YEARS {
-        for date in DATES {
-            for hour in HOURS {
-                starts.push(Mm58274c::at_the_end_of(hour, date, year))?;
-            }
-        }
-    }
-    Ok(starts)
-}
-
 // 8 dates, 5 years and 9 hours make 360 faces, of which the 27 with 29 February after a leap year are unlawful.
 #[test]
-fn leap_days_year_ends_noon_and_midnight_by_tenths(rt: HostRuntime) -> Result<(), Fail> {
-    let starts = starts274(rt.alloc())?;
+fn leap_days_year_ends_noon_and_midnight_by_tenths(rt: HostRuntime) {
     for n in [0, 1, 2, 601, 36_001] {
-        let lawful: Vec<bool> = starts
-            .iter()
-            .filter_map(|start| agrees::<Running274, _, 15>(start, n))
-            .collect(rt.alloc())?;
-        assert_eq!(rt; lawful.len(), 333);
-        assert!(rt; lawful.iter().all(|agrees| *agrees));
+        let agree = YEARS.map(|year| {
+            DATES.map(|date| {
+                HOURS.map(|hour| {
+                    agrees::<Running274, _, 15>(&Mm58274c::at_the_end_of(hour, date, year), n)
+                })
+            })
+        });
+        let lawful = agree.iter().flatten().flatten().flatten();
+        let alike = lawful.fold(
+            0u32,
+            |alike, agrees| alike.saturating_add(u32::from(*agrees)),
+        );
+        assert_eq!(rt; alike, 333);
+        let mut lawful = agree.iter().flatten().flatten().flatten();
+        assert!(rt; lawful.all(|agrees| *agrees));
     }
-    Ok(())
 }
 
 #[test]
@@ -94,16 +87,14 @@ fn forty_days_by_tenths(rt: HostRuntime) {
 }
 
 #[test]
-fn month_ends_and_midnight_by_milliseconds(rt: HostRuntime) -> Result<(), Fail> {
-    let mut lawful = Vec::new(rt.alloc());
-    for date in DATES {
-        for n in [0, 1, 2, 1_001, 3_600_001] {
-            lawful.extend(agrees::<Running167, _, 14>(&Mm58167b::at_the_end_of(date), n))?;
-        }
-    }
-    assert_eq!(rt; lawful.len(), 35);
-    assert!(rt; lawful.iter().all(|agrees| *agrees));
-    Ok(())
+fn month_ends_and_midnight_by_milliseconds(rt: HostRuntime) {
+    let agree = [0, 1, 2, 1_001, 3_600_001].map(|n| {
+        DATES.map(|date| agrees::<Running167, _, 14>(&Mm58167b::at_the_end_of(date), n))
+    });
+    let lawful = agree.iter().flatten().flatten();
+    assert_eq!(rt; lawful.filter(|agrees| **agrees).count(), 35);
+    let mut lawful = agree.iter().flatten().flatten();
+    assert!(rt; lawful.all(|agrees| *agrees));
 }
 
 // 3,276 cycles make the first tenth, and of the rest of a period four more are counted.
@@ -120,6 +111,8 @@ fn a_clone_of_a_running_clock_counts_on_as_it_does(rt: HostRuntime) -> Result<()
     assert_eq!(rt; clone.wait(16_384 - 3_276), 4);
     assert_eq!(rt; clone.held, 0);
     assert_eq!(rt; clock.held, 3_276);
+    assert_eq!(rt; clock.wait(16_384 - 3_276), 4);
+    assert_eq!(rt; clone.counters.face(), clock.counters.face());
     Ok(())
 }
 
