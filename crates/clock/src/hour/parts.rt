@@ -7,7 +7,7 @@ use crate::hour::{Hour, HourOfDay};
 use crate::mode::HourMode;
 
 impl HourOfDay {
-    pub(crate) fn hours(self) -> u8
+    pub fn hours(self) -> u8
         ensures { result ≡ hours self.hour }
     {
         match self.hour {
@@ -15,13 +15,13 @@ impl HourOfDay {
         }
     }
 
-    pub(crate) fn is_pm(self) -> bool
+    pub fn is_pm(self) -> bool
         ensures { result ≡ is_pm self.hour }
     {
         matches!(self.hour, Hour::Pm(_))
     }
 
-    pub(crate) fn mode(self) -> HourMode
+    pub fn mode(self) -> HourMode
         ensures { is24 result ≡ mode24 self.hour }
     {
         match self.hour {

@@ -65,6 +65,10 @@ impl Chip for Mm58274c {
 
     // Column 14, the setting register, is looked at under either select.
     fn digit(&mut self, column: u64) -> Result<u8, Refusal> {
+        // before a face is made
+        if column >= 15 {
+            return Err(Refusal::NoColumn);
+        }
         let digit = self.counters.digits().digit(column)?;
         self.calls.one_more();
         Ok(digit)
@@ -77,14 +81,14 @@ impl Chip for Mm58274c {
     }
 
     fn read(&mut self, address: u64) -> Result<u8, Refusal> {
-        let digits = self.counters.digits();
-        Ok(match Register::try_from(address)? {
-            Register::Control => self.read_control(),
-            Register::Tenths => digits.columns[0],
-            Register::Digit(column) => digits.columns[column.index],
-            Register::Selected if self.select => self.interrupt.register.value,
-            Register::Selected => digits.columns[14],
-        })
+        let column = match Register::try_from(address)? {
+            Register::Control => return Ok(self.read_control()),
+            Register::Selected if self.select => return Ok(self.interrupt.register.value),
+            Register::Tenths => 0,
+            Register::Digit(column) => column.index,
+            Register::Selected => 14,
+        };
+        Ok(self.counters.digits().columns[column])
     }
 
     fn take(&mut self) -> bool {
@@ -95,20 +99,23 @@ impl Chip for Mm58274c {
     }
 
     fn write(&mut self, address: u64, value: u64) -> Result<(), Refusal> {
-        let digits = self.counters.digits();
         match Register::try_from(address)? {
             Register::Control => self.write_control(Control::try_from(Nibble::try_from(value)?)?),
             Register::Tenths => Err(Refusal::NotWritable),
-            Register::Digit(column) => self.hold(with_digit(
-                digits,
-                column,
-                Nibble::try_from(value)?,
-            )),
+            Register::Digit(column) => {
+                let digit = Nibble::try_from(value)?;
+                let digits = self.counters.digits();
+                self.hold(with_digit(digits, column, digit))
+            }
             Register::Selected if self.select => {
                 self.load_interrupt(Nibble::try_from(value)?);
                 Ok(())
             }
-            Register::Selected => self.hold(with_setting(digits, Nibble::try_from(value)?)),
+            Register::Selected => {
+                let setting = Nibble::try_from(value)?;
+                let digits = self.counters.digits();
+                self.hold(with_setting(digits, setting))
+            }
         }
     }
 }

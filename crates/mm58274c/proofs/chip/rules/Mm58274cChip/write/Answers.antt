@@ -6,13 +6,13 @@ use Rattle.mm58274c.proofs.Writing.{lands, to_digit, to_interrupt}
 use Rattle.mm58274c.specs.Told.{time_sound}
 use Rattle.mm58274c.proofs.chip.rules.Mm58274cChip.write.Goals as goal
 
-pub returns-in_ok-try_from-in-Digit : goal.returns-in_ok-try_from-in-Digit
-returns-in_ok-try_from-in-Digit c =
+pub returns-in_ok-digit-in-Digit : goal.returns-in_ok-digit-in-Digit
+returns-in_ok-digit-in-Digit c =
     let s = registers c.args.self.now in
     let a = c.args.address in
     let k = c.in-Digit.column in
     let at : c.args.address ≡ 1 + k.index = subst (λ r. Is r a) c.in-Digit.is c.in_ok-try_from.ensures in
-    let n = c.in_ok-try_from-in-Digit in
+    let n = c.in_ok-digit-in-Digit in
     let d : c.with_digit.result.columns ≡ digit_written s.time.digits (c.args.address - 1) c.args.value =
     c.with_digit.ensures ∙ (λ i. digit_written (c.digits-digits.ensures i) ((let e : k.index ≡ c.args.address - 1 = omega arith in e) i) (n.ensures.0 i)) in
     lands c.args.self.now c.hold.result c.hold.new.self a c.args.value (with_digits s c.with_digit.result.columns)
