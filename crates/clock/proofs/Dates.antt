@@ -12,12 +12,12 @@ before_more leap k (suc j) =
     let e : suc j + k ≡ suc (j + k) = omega arith in
     rw e (omega (arith, before_more leap k j))
 
-before_mono : (leap : Bool) (k l : ℕ) → k ≤ l → days_before k leap ≤ days_before l leap
+pub before_mono : (leap : Bool) (k l : ℕ) → k ≤ l → days_before k leap ≤ days_before l leap
 before_mono leap k l h =
     let e : (l - k) + k ≡ l = omega arith in
     subst (λ x. days_before k leap ≤ days_before x leap) e (before_more leap k (l - k))
 
-before_year : (leap : Bool) → days_before 12 leap ≡ year_days leap
+pub before_year : (leap : Bool) → days_before 12 leap ≡ year_days leap
 unfolding days_before
 before_year true = refl
 before_year false = refl

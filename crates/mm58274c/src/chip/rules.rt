@@ -65,7 +65,7 @@ impl Chip for Mm58274c {
 
     // Column 14, the setting register, is looked at under either select.
     fn digit(&mut self, column: u64) -> Result<u8, Refusal> {
-        // before a face is made
+        // A refused column makes no face.
         if column >= 15 {
             return Err(Refusal::NoColumn);
         }
